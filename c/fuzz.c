@@ -275,23 +275,24 @@ static int one_round(uint64_t seed) {
 /* What is owed is written, into a room of any size first. */
 static int write_down(struct batcher_loop *loop, uint8_t *disk, size_t *written) {
     static uint8_t room[DISK];
-    uint64_t count = 0;
+    uint64_t count = 0, number = below(3);
     size_t tried = below(200);
     bool replaces = false;
-    uint8_t code = batcher_loop_owed(loop, room, tried, &count, &replaces);
-    CHECK((code == BATCHER_SHORT) == (code != BATCHER_IDLE && tried < count));
-    code = batcher_loop_owed(loop, room, sizeof room, &count, &replaces);
+    uint8_t code = batcher_loop_give(loop, number, room, tried, &count, &replaces);
+    CHECK(code == BATCHER_IDLE || (code == BATCHER_SHORT) == (tried < count));
+    if (code == BATCHER_SHORT) code = batcher_loop_give(loop, number, room, sizeof room, &count, &replaces);
     CHECK(code == BATCHER_DONE || code == BATCHER_IDLE);
     if (code == BATCHER_IDLE) return 0;
+    CHECK(batcher_loop_give(loop, number, room, sizeof room, &count, &replaces) == BATCHER_IDLE);
     if (replaces) *written = 0;
     CHECK(*written + count <= DISK);
     memcpy(disk + *written, room, count);
     *written += count;
     do {
-        code = batcher_loop_wrote(loop);
+        code = batcher_loop_wrote(loop, number);
         CHECK(code == BATCHER_DONE || (code == BATCHER_OUT_OF_MEMORY && refused));
     } while (code != BATCHER_DONE);
-    CHECK(batcher_loop_owed(loop, room, sizeof room, &count, &replaces) == BATCHER_IDLE);
+    CHECK(batcher_loop_give(loop, number, room, sizeof room, &count, &replaces) == BATCHER_IDLE);
     return 0;
 }
 
@@ -394,6 +395,8 @@ static int one_loop_call(struct batcher_loop *loop, uint32_t participants, uint3
         code = batcher_loop_kept(loop, vote.kind, &vote.proposal, room, sizeof room, &count);
         CHECK((code == BATCHER_MALFORMED) == (vote.kind > 2));
         CHECK(code != BATCHER_SHORT || count > sizeof room);
+        CHECK(batcher_loop_certified(loop, vote.kind, &vote.proposal) != BATCHER_IDLE || code == BATCHER_IDLE
+              || code == BATCHER_NOT_WRITTEN);
         return 0;
     case 6: CHECK(batcher_loop_expire(loop, below(8), &progress) == BATCHER_DONE); return 0;
     case 7: return conclude_in(loop, participants);
@@ -414,7 +417,7 @@ static int one_loop(uint64_t seed) {
     options.ahead = below(4);
     options.track_historical_votes = below(2) != 0;
     options.begins = true;
-    CHECK(batcher_loop_wrote(&loop) == BATCHER_NONE);
+    CHECK(batcher_loop_wrote(&loop, 0) == BATCHER_NONE);
     CHECK(batcher_loop_start(&loop, &options, (const uint8_t *)"c", 1, NULL, 0) == BATCHER_DONE);
     for (int calls = 0; calls < 200; calls++) {
         int line = one_loop_call(&loop, options.participants, options.participant, disk, &written);
@@ -426,6 +429,19 @@ static int one_loop(uint64_t seed) {
     refused = false;
     uint8_t code = batcher_loop_start(&loop, &options, (const uint8_t *)"c", 1, disk, written);
     CHECK(code == BATCHER_DONE || (code == BATCHER_OUT_OF_MEMORY && refused));
+    if (code == BATCHER_DONE && !options.begins) {
+        struct batcher_vote vote;
+        uint64_t place = 0, count;
+        uint8_t bytes[8], kind;
+        for (; (code = batcher_loop_own_vote(&loop, place, &vote)) != BATCHER_IDLE; place++)
+            CHECK(code == BATCHER_DONE && attests(&vote.attestation) && vote.attestation.signer == options.participant);
+        for (place = 0;; place++) {
+            code = batcher_loop_held(&loop, place, &kind, &vote.proposal, bytes, sizeof bytes, &count);
+            if (code == BATCHER_IDLE) break;
+            CHECK((code == BATCHER_DONE && count <= sizeof bytes) || (code == BATCHER_SHORT && count > sizeof bytes));
+            CHECK(code == BATCHER_SHORT || kind <= BATCHER_FINALIZATION);
+        }
+    }
     batcher_loop_free(&loop);
     CHECK(loop.at == NULL);
     return 0;

@@ -26,12 +26,12 @@ static bool write_down(struct alone *it) {
     uint64_t count = 0;
     bool replaces = false;
     uint8_t code;
-    if (batcher_loop_owed(&it->loop, it->room, ROOM, &count, &replaces) != BATCHER_DONE) return false;
+    if (batcher_loop_give(&it->loop, 0, it->room, ROOM, &count, &replaces) != BATCHER_DONE) return false;
     if (replaces) it->written = 0;
     if (it->written + count > ROOM) return false;
     memcpy(it->disk + it->written, it->room, count);
     it->written += count;
-    return AGAIN(batcher_loop_wrote(&it->loop)) == BATCHER_DONE;
+    return AGAIN(batcher_loop_wrote(&it->loop, 0)) == BATCHER_DONE;
 }
 
 static bool cast(struct alone *it, const struct batcher_task *task) {

@@ -13,6 +13,7 @@
 #include <stdio.h>
 #include <stdlib.h>
 #include <string.h>
+#include <sys/file.h>
 #include <sys/stat.h>
 #include <time.h>
 #include <unistd.h>
@@ -156,19 +157,41 @@ static void carry_out(void) {
 static size_t read_file(const char *folder, int which, uint8_t *bytes) {
     char path[512];
     snprintf(path, sizeof path, "%s/journal.%d", folder, which);
-    files[which] = open(path, O_RDWR);
-    ssize_t length = files[which] < 0 ? -1 : pread(files[which], bytes, ROOM, 0);
+    files[which] = open(path, O_RDWR | O_CLOEXEC);
+    need(files[which] >= 0, "a file isn't there");
+    /* The lock of the first is that of both, as the crate has it, until the program ends. */
+    need(which == 1 || flock(files[0], LOCK_EX | LOCK_NB) == 0, "its files are in use");
+    ssize_t length = pread(files[which], bytes, ROOM, 0);
     need(length >= 0 && length < ROOM && fsync(files[which]) == 0, "a file isn't read");
     return (size_t)length;
+}
+
+/* What the disk had is sent again, so it is verified first. */
+static void verify_disk(void) {
+    struct batcher_vote vote;
+    struct batcher_proposal proposal;
+    uint64_t place, length;
+    uint8_t kind, code;
+    for (place = 0; (code = batcher_loop_own_vote(&loop, place, &vote)) != BATCHER_IDLE; place++) {
+        done(code);
+        need(attests(vote.kind, &vote.proposal, &vote.attestation), "a vote of its disk doesn't attest");
+    }
+    for (place = 0; (code = batcher_loop_held(&loop, place, &kind, &proposal, room, ROOM, &length)) != BATCHER_IDLE;
+         place++) {
+        done(code);
+        need(certifies(kind, &proposal, room, length), "a certificate of its disk doesn't certify");
+    }
 }
 
 /* The validator that goes on by its files. Files that have nothing show that nothing was signed, so it begins. */
 static void start(const char *folder) {
     static uint8_t first[ROOM], second[ROOM];
     struct batcher_loop_options options = {.ahead = 16, .participants = count, .participant = me};
-    size_t lengths[2] = {read_file(folder, 0, first), read_file(folder, 1, second)};
+    size_t lengths[2];
     uint64_t written = 0;
     bool turned = false;
+    lengths[0] = read_file(folder, 0, first);
+    lengths[1] = read_file(folder, 1, second);
     uint8_t code = batcher_files_open(&disk, first, lengths[0], second, lengths[1], &turned);
     in_use = turned;
     options.begins = code == BATCHER_NOT_BEGUN;
@@ -179,20 +202,23 @@ static void start(const char *folder) {
     }
     crypto_hash_sha256(options.keys, public[0], 32 * count);
     done(batcher_loop_start(&loop, &options, (const uint8_t *)NAMESPACE, sizeof NAMESPACE - 1, first, written));
+    if (!options.begins) verify_disk();
 }
 
 static void write_down(void) {
     static uint8_t bytes[ROOM];
+    static uint64_t writes;
     uint64_t length;
     bool replaces;
-    done(batcher_loop_owed(&loop, bytes, ROOM, &length, &replaces));
+    writes++;
+    done(batcher_loop_give(&loop, writes, bytes, ROOM, &length, &replaces));
     if (disk.at == NULL)
         done(batcher_files_create(&disk, room, 0, room, 0, bytes, length));
     else
         done(replaces ? batcher_files_replace(&disk, bytes, length) : batcher_files_append(&disk, bytes, length));
     carry_out();
     if (replaces) in_use = 1 - in_use;
-    done(batcher_loop_wrote(&loop));
+    done(batcher_loop_wrote(&loop, writes));
 }
 
 static void hang_up(struct way *it) {
@@ -240,7 +266,7 @@ static void cast(const struct batcher_task *task) {
         vote.attestation.length = 64;
         crypto_sign_ed25519_detached(vote.attestation.bytes, NULL, message, length, secret[me]);
     }
-    uint8_t code = batcher_loop_cast(&loop, &vote, true);
+    uint8_t code = batcher_loop_cast(&loop, &vote, attests(vote.kind, &vote.proposal, &vote.attestation));
     need(code == BATCHER_DONE || code == BATCHER_KNOWN || code == BATCHER_REFUSED || code == BATCHER_ELSEWHERE,
          batcher_code_text(code));
 }
@@ -320,7 +346,6 @@ static void go_on(void) {
 static void hear(uint32_t peer, const uint8_t *bytes, size_t length) {
     struct batcher_admission admission;
     struct batcher_vote vote;
-    uint64_t kept;
     if (length < SUBJECT) return;
     memset(&vote, 0, sizeof vote);
     vote.kind = bytes[1];
@@ -338,7 +363,7 @@ static void hear(uint32_t peer, const uint8_t *bytes, size_t length) {
     } else if (bytes[-SUBJECT] == 1 && vote.proposal.view >= last) {
         struct batcher_proposal proposal = vote.proposal;
         /* One that is there isn't verified. */
-        if (batcher_loop_kept(&loop, vote.kind, &proposal, room, 0, &kept) != BATCHER_IDLE) return;
+        if (batcher_loop_certified(&loop, vote.kind, &proposal) != BATCHER_IDLE) return;
         bool good = certifies(vote.kind, &vote.proposal, bytes, length);
         batcher_loop_certificate(&loop, peer, vote.kind, &vote.proposal, bytes, length, good);
         if (!good) is_blocked[peer] = true;

@@ -160,6 +160,25 @@ static int carry_out(struct validator *it, bool *is_stopped) {
     return 0;
 }
 
+/* What the disk had attests, since nothing else was written. */
+static int verify_disk(const struct batcher_loop *loop) {
+    struct batcher_vote vote;
+    struct message message;
+    uint64_t place, count = 0;
+    uint8_t code;
+    for (place = 0; (code = batcher_loop_own_vote(loop, place, &vote)) != BATCHER_IDLE; place++)
+        CHECK(code == BATCHER_DONE && attests(vote.kind, &vote.proposal, &vote.attestation));
+    memset(&message, 0, sizeof message);
+    for (place = 0; (code = batcher_loop_held(loop, place, &message.vote.kind, &message.vote.proposal, message.bytes,
+                                              sizeof message.bytes, &count))
+                    != BATCHER_IDLE;
+         place++) {
+        message.length = count;
+        CHECK(code == BATCHER_DONE && certifies(&message));
+    }
+    return 0;
+}
+
 /* The validator that goes on by its files, or begins where they have nothing. */
 static int start(uint32_t me) {
     static uint8_t disk[ROOM];
@@ -185,18 +204,21 @@ static int start(uint32_t me) {
         CHECK(batcher_files_bytes(&it->files, disk, sizeof disk, &count) == BATCHER_DONE);
     }
     CHECK(batcher_loop_start(&it->loop, &options, (const uint8_t *)"c", 1, disk, count) == BATCHER_DONE);
-    return 0;
+    return options.begins ? 0 : verify_disk(&it->loop);
 }
 
 /* What is owed is written, unless it is stopped before that is done. */
 static int write_down(uint32_t me, bool *is_stopped) {
     static uint8_t room[ROOM];
+    static uint64_t number;
     struct validator *it = &all[me];
     uint64_t count = 0;
     bool replaces = false;
     uint8_t code;
-    CHECK(batcher_loop_owed(&it->loop, room, 1, &count, &replaces) == BATCHER_SHORT);
-    CHECK(batcher_loop_owed(&it->loop, room, sizeof room, &count, &replaces) == BATCHER_DONE);
+    number++;
+    CHECK(batcher_loop_give(&it->loop, number, room, 1, &count, &replaces) == BATCHER_SHORT);
+    CHECK(batcher_loop_wrote(&it->loop, number) == BATCHER_NOT_GIVEN);
+    CHECK(batcher_loop_give(&it->loop, number, room, sizeof room, &count, &replaces) == BATCHER_DONE);
     if (it->files.at == NULL) {
         CHECK(!replaces);
         code = batcher_files_create(&it->files, it->file[0], it->length[0], it->file[1], it->length[1], room, count);
@@ -209,8 +231,11 @@ static int write_down(uint32_t me, bool *is_stopped) {
     int line = carry_out(it, is_stopped);
     if (line != 0 || *is_stopped) return line;
     if (replaces) it->in_use = 1 - it->in_use;
-    CHECK(batcher_loop_wrote(&it->loop) == BATCHER_DONE);
-    CHECK(batcher_loop_owed(&it->loop, room, sizeof room, &count, &replaces) == BATCHER_IDLE);
+    CHECK(batcher_loop_give(&it->loop, number + 1, room, sizeof room, &count, &replaces) == BATCHER_IDLE);
+    CHECK(batcher_loop_wrote(&it->loop, number + 1) == BATCHER_NOT_GIVEN);
+    CHECK(batcher_loop_wrote(&it->loop, number) == BATCHER_DONE);
+    CHECK(batcher_loop_wrote(&it->loop, number) == BATCHER_NOT_GIVEN);
+    CHECK(batcher_loop_give(&it->loop, number + 1, room, sizeof room, &count, &replaces) == BATCHER_IDLE);
     return 0;
 }
 
@@ -252,7 +277,7 @@ static int cast(uint32_t me, uint8_t kind, const struct batcher_proposal *propos
     vote.proposal = *proposal;
     vote.kind = kind;
     vote.attestation = sign(me, kind, proposal);
-    uint8_t code = batcher_loop_cast(&all[me].loop, &vote, true);
+    uint8_t code = batcher_loop_cast(&all[me].loop, &vote, attests(kind, proposal, &vote.attestation));
     CHECK(code == BATCHER_DONE || code == BATCHER_KNOWN || code == BATCHER_REFUSED);
     return 0;
 }
@@ -385,7 +410,8 @@ static int one_network(uint64_t seed) {
             CHECK(batcher_loop_expire(&all[me].loop, all[me].view, &progress) == BATCHER_DONE);
             CHECK(counts_votes(&progress) && (!progress.has_leader || progress.leader == all[me].view % VALIDATORS));
         } else {
-            for (int heard = 0; heard < 8 && all[me].count != 0; heard++)
+            /* By fewer the inbox fills with what is sent again while nothing is final, and new votes are lost. */
+            for (int heard = 0; heard < 16 && all[me].count != 0; heard++)
                 if ((line = hear(me)) != 0) return line;
         }
         if ((line = go_on(me, &is_stopped)) != 0) return line;
@@ -418,7 +444,9 @@ static int mistakes(void) {
     memset(&vote, 0, sizeof vote);
     memset(&task, 0, sizeof task);
     CHECK(batcher_loop_poll(&loop, &task) == BATCHER_NONE);
-    CHECK(batcher_loop_owed(&loop, room, ROOM, &count, &replaces) == BATCHER_NONE);
+    CHECK(batcher_loop_give(&loop, 0, room, ROOM, &count, &replaces) == BATCHER_NONE);
+    CHECK(batcher_loop_own_vote(&loop, 0, &vote) == BATCHER_NONE);
+    CHECK(batcher_loop_held(&loop, 0, &vote.kind, &proposal, room, ROOM, &count) == BATCHER_NONE);
     CHECK(batcher_loop_start(&loop, &options, NULL, 0, NULL, 0) == BATCHER_MALFORMED);
     options.participants = VALIDATORS;
     options.participant = VALIDATORS;
@@ -433,8 +461,11 @@ static int mistakes(void) {
     CHECK(batcher_loop_start(&loop, &options, (const uint8_t *)"c", 1, NULL, 0) == BATCHER_DONE);
     /* Nothing is done before its journal is written. */
     CHECK(batcher_loop_poll(&loop, &task) == BATCHER_WRITE && batcher_loop_poll(&loop, &task) == BATCHER_WRITE);
-    CHECK(batcher_loop_owed(&loop, room, ROOM, &count, &replaces) == BATCHER_DONE && count > 0);
-    CHECK(batcher_loop_wrote(&loop) == BATCHER_DONE);
+    CHECK(batcher_loop_held(&loop, 0, &vote.kind, &proposal, room, ROOM, &count) == BATCHER_NOT_WRITTEN);
+    CHECK(batcher_loop_give(&loop, 0, room, ROOM, &count, &replaces) == BATCHER_DONE && count > 0);
+    /* It is given once, and what is sent waits for it. */
+    CHECK(batcher_loop_give(&loop, 1, room, ROOM, &count, &replaces) == BATCHER_IDLE);
+    CHECK(batcher_loop_wrote(&loop, 1) == BATCHER_NOT_GIVEN && batcher_loop_wrote(&loop, 0) == BATCHER_DONE);
     CHECK(batcher_loop_poll(&loop, &task) == BATCHER_DONE && task.task == BATCHER_TASK_ENTER);
     CHECK(task.proposal.view == 1 && task.proposal.epoch == 0);
     CHECK(batcher_loop_poll(&loop, &task) == BATCHER_IDLE);
@@ -467,9 +498,20 @@ static int mistakes(void) {
     CHECK(batcher_loop_certificate(&loop, 2, BATCHER_FINALIZATION, &proposal, room, 9, false) == BATCHER_FORGED);
     CHECK(batcher_loop_certificate(&loop, 2, BATCHER_FINALIZATION, &proposal, room, 9, true) == BATCHER_DONE);
     CHECK(batcher_loop_kept(&loop, BATCHER_FINALIZATION, &proposal, room, 8, &count) == BATCHER_SHORT && count == 9);
+    CHECK(batcher_loop_certified(&loop, 3, &proposal) == BATCHER_MALFORMED);
+    CHECK(batcher_loop_certified(&loop, BATCHER_NULLIFICATION, &proposal) == BATCHER_IDLE);
+    CHECK(batcher_loop_certified(&loop, BATCHER_FINALIZATION, &proposal) == BATCHER_DONE);
+    /* Its view is the final one, which is to be written. Until then no certificate is shown. */
+    CHECK(batcher_loop_poll(&loop, &task) == BATCHER_DONE && task.task == BATCHER_TASK_FINAL);
+    CHECK(batcher_loop_kept(&loop, BATCHER_FINALIZATION, &proposal, room, ROOM, &count) == BATCHER_NOT_WRITTEN);
+    CHECK(batcher_loop_give(&loop, 1, room, ROOM, &count, &replaces) == BATCHER_DONE && replaces);
+    CHECK(batcher_loop_kept(&loop, BATCHER_FINALIZATION, &proposal, room, ROOM, &count) == BATCHER_NOT_WRITTEN);
+    CHECK(batcher_loop_wrote(&loop, 1) == BATCHER_DONE);
+    CHECK(batcher_loop_kept(&loop, BATCHER_FINALIZATION, &proposal, room, ROOM, &count) == BATCHER_DONE && count == 9);
+    CHECK(batcher_loop_own_vote(&loop, 0, &vote) == BATCHER_IDLE);
     /* The bytes are of another participant, of another epoch, or are damaged. */
     CHECK(batcher_loop_start(&loop, &options, (const uint8_t *)"c", 1, NULL, 0) == BATCHER_DONE);
-    CHECK(batcher_loop_owed(&loop, room, ROOM, &count, &replaces) == BATCHER_DONE);
+    CHECK(batcher_loop_give(&loop, 0, room, ROOM, &count, &replaces) == BATCHER_DONE);
     options.begins = false;
     CHECK(batcher_loop_start(&loop, &options, (const uint8_t *)"d", 1, room, count) == BATCHER_OTHER_OWNER);
     options.epoch = 1;

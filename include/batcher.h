@@ -71,7 +71,9 @@ enum batcher_code {
     BATCHER_OTHER_VERSION, /* the bytes are of another version of this library */
     BATCHER_OTHER_OWNER, /* they are of another participant, epoch or namespace, or of other keys */
     BATCHER_DAMAGED, /* they are no journal, or have what wasn't written so */
-    BATCHER_UNFINISHED /* what is to be done to the files already is to be done first */
+    BATCHER_UNFINISHED, /* what is to be done to the files already is to be done first */
+    BATCHER_NOT_WRITTEN, /* it waits until the disk has all that was done: ask again after the write */
+    BATCHER_NOT_GIVEN /* no write is under way by this number, so nothing changed */
 };
 
 enum batcher_kind { BATCHER_NOTARIZATION, BATCHER_NULLIFICATION, BATCHER_FINALIZATION };
@@ -238,8 +240,8 @@ struct batcher_loop_options {
 };
 
 /* Does nothing. Its name has the version of this header, so a library of another one doesn't link. */
-void batcher_abi_4(void);
-__attribute__((used)) static void (*const batcher_abi)(void) = batcher_abi_4;
+void batcher_abi_5(void);
+__attribute__((used)) static void (*const batcher_abi)(void) = batcher_abi_5;
 
 /* The library takes its memory by these three, which a program defines: c/heap.c does, over malloc. A block
  * is aligned by 16, and `at` is never null, also where the request is refused. */
@@ -288,6 +290,8 @@ static inline const char *batcher_code_text(uint8_t code) {
     case BATCHER_OTHER_OWNER: return "the bytes are somebody else's";
     case BATCHER_DAMAGED: return "the bytes are damaged";
     case BATCHER_UNFINISHED: return "other changes are to be done first";
+    case BATCHER_NOT_WRITTEN: return "something isn't written yet";
+    case BATCHER_NOT_GIVEN: return "no write is under way by this number";
     default: return "no code of this version";
     }
 }
@@ -378,24 +382,29 @@ uint8_t batcher_loop_start(struct batcher_loop *validator, const struct batcher_
 /* Frees the validator, if there is one. */
 void batcher_loop_free(struct batcher_loop *validator);
 
-/* What is to be done next. DONE: the task, once. WRITE: nothing is, until what is owed is written. IDLE:
- * nothing is, until something comes. FULL and CLOSED: start it again, by what is on the disk. */
+/* What is to be done next. DONE: the task, once. WRITE: nothing is, until `batcher_loop_give` has given what is
+ * to be written. IDLE: nothing is, until something comes, or a write is done: while one is under way, what is
+ * sent, signed or final waits. FULL and CLOSED: start it again, by what is on the disk. */
 uint8_t batcher_loop_poll(struct batcher_loop *validator, struct batcher_task *out);
 
 /* What is to be written to the disk, so that a crash leaves all of it or none: in the place of all that is
- * there where it `replaces`, and else behind it. SHORT: the room is too short for so many. IDLE: nothing. */
-uint8_t batcher_loop_owed(const struct batcher_loop *validator, uint8_t *room, size_t room_length,
+ * there where it `replaces`, and else behind it. It is given once, and under way from then on by this number, of
+ * your own: give no two writes of a program the same, so that what one of an earlier start is confirmed by isn't
+ * taken for another's. SHORT: the room is too short for so many, and nothing is under way. IDLE: nothing is to be
+ * written, or a write is under way. */
+uint8_t batcher_loop_give(struct batcher_loop *validator, uint64_t number, uint8_t *room, size_t room_length,
                           uint64_t *count, bool *replaces);
 
-/* What is owed is written, and lasts. */
-uint8_t batcher_loop_wrote(struct batcher_loop *validator);
+/* The write of this number is done, and lasts: what was given then, and nothing that came since. Where it
+ * failed, start the validator again by the disk. NOT_GIVEN: none is under way by this number. */
+uint8_t batcher_loop_wrote(struct batcher_loop *validator, uint64_t number);
 
 /* A vote of the peer whose key is the number, who is authenticated. */
 uint8_t batcher_loop_vote(struct batcher_loop *validator, uint64_t peer, const struct batcher_vote *vote,
                           struct batcher_admission *out);
 
 /* A certificate of a peer, as bytes, and whether they certify what it names. By one from beyond the window
- * a validator that fell behind goes on; where that is FORGED, drop its peer. */
+ * a validator that fell behind goes on, since it is learned; where that is FORGED, drop its peer. */
 uint8_t batcher_loop_certificate(struct batcher_loop *validator, uint64_t peer, uint8_t kind,
                                  const struct batcher_proposal *proposal, const uint8_t *bytes,
                                  size_t bytes_length, bool certifies);
@@ -414,8 +423,9 @@ uint8_t batcher_loop_conclude(struct batcher_loop *validator, uint8_t kind,
                               const struct batcher_attestation *list, size_t list_length,
                               const bool *verdicts, size_t verdicts_length);
 
-/* A vote of its own, and whether it attests: what was to be signed, or to be cast again. It is sent only
- * where a task says so. */
+/* A vote of its own, and whether it attests: what was to be signed, or to be cast again. Verify it: all would
+ * block a validator that sends one which doesn't. It is sent only where a task says so. NOT_VERIFIED: nothing is
+ * written, and it is to be signed again once a time is over; meanwhile another may be. */
 uint8_t batcher_loop_cast(struct batcher_loop *validator, const struct batcher_vote *vote, bool attests);
 
 /* The leader's index isn't looked at, and can't be changed. */
@@ -426,12 +436,27 @@ uint8_t batcher_loop_judge(struct batcher_loop *validator, const struct batcher_
                            bool valid);
 
 /* The time of the view is over, for the first time or again: it is given up, unless its proposal is
- * notarized. All votes and certificates from the final view on are sent again. How far the view is says why
- * it takes so long. */
+ * notarized. All votes and certificates from the final view on are sent again, and what isn't signed by then
+ * is to be signed again. How far the view is says why it takes so long. */
 uint8_t batcher_loop_expire(struct batcher_loop *validator, uint64_t view, struct batcher_progress *out);
 
+/* The whole proposal of the certificate of this kind and of its round. IDLE: none is kept. */
+uint8_t batcher_loop_certified(const struct batcher_loop *validator, uint8_t kind,
+                               struct batcher_proposal *proposal);
+
+/* What the disk had, by place, until it is IDLE: its own votes of earlier lives, and the certificates, with
+ * kind, proposal and bytes. Verify them all before the first poll: they are sent again. A validator with one
+ * that isn't good is freed, and not polled. SHORT: the room is too short for so many bytes. NOT_WRITTEN: as of
+ * `kept`. */
+uint8_t batcher_loop_own_vote(const struct batcher_loop *validator, uint64_t index, struct batcher_vote *out);
+
+uint8_t batcher_loop_held(const struct batcher_loop *validator, uint64_t index, uint8_t *kind,
+                          struct batcher_proposal *proposal, uint8_t *room, size_t room_length,
+                          uint64_t *count);
+
 /* The certificate of this kind and of the round of the proposal: its bytes, and the whole proposal. One that
- * it made is its list of attestations. SHORT: the room is too short for so many bytes. IDLE: none is kept. */
+ * it made is its list of attestations. SHORT: the room is too short for so many bytes. IDLE: none is kept.
+ * NOT_WRITTEN: it may have an own vote that the disk lacks. */
 uint8_t batcher_loop_kept(const struct batcher_loop *validator, uint8_t kind,
                           struct batcher_proposal *proposal, uint8_t *room, size_t room_length,
                           uint64_t *count);

@@ -3,7 +3,9 @@
 use Rattle.std.specs.Prelude.{◌≡◌, ◌≢◌, ◌==◌, ◌<◌, ◌≤◌, ◌++◌, ◌⊎◌, ◌&&◌, ⊤, ℕ, Bool, true, false}
 use Rattle.std.specs.Prelude.{List, [], ◌∷◌, length, nat_le, not, nat_lt, Contains, MatchBool}
 use Rattle.std.specs.Prelude.{MatchOption, Option, Some, None, Result, Ok, Err, IfErr, IfOk, IfSome}
-use Rattle.std.specs.Prelude.{IsSomeAnd, OnErr, OnOk, is_some}
+use Rattle.std.specs.Prelude.{IsSomeAnd, OnErr, OnOk, is_some, take}
+use Rattle.std.specs.List.{slice_get}
+use Rattle.std.specs.Option.{option_map}
 use Rattle.std.specs.Ordering.{nat_cmp}
 use Rattle.std.specs.declared.alloc.AllocError.{AllocError}
 use Rattle.batcher.specs.Meaning.{Meaning}
@@ -26,6 +28,7 @@ use Rattle.batcher_types.specs.declared.scheme.keyed.Name.{Name}
 use Rattle.batcher_types.specs.Keys.{participant}
 use Rattle.batcher_agreement.specs.Lives.{called}
 use Rattle.batcher_agreement.specs.Policy.{Conduct}
+use Rattle.batcher_bytes.specs.Copies.{CopyView}
 use Rattle.batcher_bytes.specs.Encodings.{ProofView, proof_format, signature_format}
 use Rattle.batcher_bytes.specs.Keys.{same_digest}
 use Rattle.batcher_bytes.specs.Kept.{proof_of, proved_at_once, vouches}
@@ -45,7 +48,8 @@ use Rattle.batcher_journal.specs.declared.journal.OpenFault.TheVariants.{OtherKe
 use Rattle.batcher_journal.specs.declared.journal.OpenFault.TheVariants.{OutOfMemory as NoMemoryToOpen}
 use Rattle.batcher_journal.specs.declared.journal.OpenFault.TheVariants.{Malformed as NoJournal}
 use Rattle.batcher_journal.specs.declared.journal.OpenFault.TheVariants.{Contradiction}
-use Rattle.batcher_validator.specs.Disks.{noted}
+use Rattle.batcher_validator.specs.Disks.{IsAllWritten, disk_of, log_of, under_way_of}
+use Rattle.batcher_validator.specs.Disks.{with_write_done, with_write_given}
 use Rattle.batcher_validator.specs.declared.looping.Loop.{Loop}
 use Rattle.batcher_validator.specs.declared.looping.Next.{Next}
 use Rattle.batcher_validator.specs.declared.looping.Next.TheVariants.{Do, Write}
@@ -66,17 +70,19 @@ use Rattle.batcher_node.specs.declared.answers.Receipt.{Receipt}
 use Rattle.batcher_node.specs.declared.answers.Verdict.{Verdict}
 use Rattle.batcher_validator.specs.Ending.{HasLessLeft}
 use Rattle.batcher_validator.specs.Histories.{ValidatorEvent, again, answered, chose, did, expired}
-use Rattle.batcher_validator.specs.Histories.{took}
+use Rattle.batcher_validator.specs.Histories.{refused}
 use Rattle.batcher_validator.specs.Queues.{HasKey}
 use Rattle.batcher_validator.specs.Running.{HasConstructed, ForEachRun, Gives, HasBegun}
 use Rattle.batcher_validator.specs.Running.{IsReadyTask, IsRunning, RunCasts, RunMayWrite, RunMeets}
-use Rattle.batcher_validator.specs.Running.{RunStays}
+use Rattle.batcher_validator.specs.Running.{RunStays, RunTakes}
 use Rattle.batcher_validator.specs.Shelves.{IsToAnnounce, kind_and_round}
-use Rattle.batcher_validator.specs.Tasks.{NothingIsDue}
+use Rattle.batcher_validator.specs.Tasks.{IsGivenMeanwhile, NothingIsDue, NothingIsDueMeanwhile}
 use Rattle.batcher_validator.specs.declared.task.PollFault.{PollFault}
 use Rattle.batcher_validator.specs.declared.task.PollFault.TheVariants.{Closed, Full}
 use Rattle.batcher_validator.specs.declared.task.PollFault.TheVariants.{OutOfMemory as NoMemoryToPoll}
 use Rattle.batcher_validator.specs.declared.task.Task.{Task}
+use Rattle.batcher_voter.specs.Keeping.{IsKnownAlready}
+use Rattle.batcher_voter.specs.Knowledge.{HasRoom}
 use Rattle.batcher_voter.specs.Needing.{CertificateNeeds, ConstructionNeeds}
 use Rattle.batcher_voter.specs.Remembering.{IsLeft}
 use Rattle.batcher_voter.specs.Voting.{WhyNotCast}
@@ -93,8 +99,9 @@ use Rattle.batcher_ffi.specs.contracts.caller.CallerTruth.TheImpl.{ghosts}
 use Rattle.batcher_ffi.specs.declared.caller.Caller.{Caller}
 use Rattle.batcher_ffi.specs.declared.codes.TheConstants.{BEGUN, CLOSED, DAMAGED, DONE, ELSEWHERE}
 use Rattle.batcher_ffi.specs.declared.codes.TheConstants.{FORGED, FULL, IDLE, KNOWN, LEADER_CHANGED}
-use Rattle.batcher_ffi.specs.declared.codes.TheConstants.{MALFORMED, NOT_BEGUN, NOT_OWN}
-use Rattle.batcher_ffi.specs.declared.codes.TheConstants.{NOT_VERIFIED, OTHER_OWNER, OTHER_VERSION}
+use Rattle.batcher_ffi.specs.declared.codes.TheConstants.{MALFORMED, NOT_BEGUN, NOT_GIVEN}
+use Rattle.batcher_ffi.specs.declared.codes.TheConstants.{NOT_OWN, NOT_VERIFIED, NOT_WRITTEN}
+use Rattle.batcher_ffi.specs.declared.codes.TheConstants.{OTHER_OWNER, OTHER_VERSION}
 use Rattle.batcher_ffi.specs.declared.codes.TheConstants.{OUT_OF_MEMORY, PASSED, REFUSED, SHORT}
 use Rattle.batcher_ffi.specs.declared.codes.TheConstants.{SIGNED, STALE, VERIFY, WRITE}
 use Rattle.batcher_ffi.specs.declared.flat.FlatAdmission.{FlatAdmission}
@@ -105,7 +112,7 @@ use Rattle.batcher_ffi.specs.declared.flat.FlatVote.{FlatVote}
 use Rattle.batcher_ffi.specs.declared.loops.LoopOptions.{LoopOptions}
 use Rattle.batcher_ffi.specs.declared.tasks.FlatTask.{FlatTask}
 use Rattle.batcher_ffi.specs.Flat.{AreIn, fault_in, kind_in, proposal_of_flat, raw_in}
-use Rattle.batcher_ffi.specs.Flat.{round_of_flat, subject_in, vote_of_flat}
+use Rattle.batcher_ffi.specs.Flat.{raw_vote_in, round_of_flat, subject_in, vote_of_flat}
 use Rattle.batcher_ffi.specs.Answers.{AnswersVote, enter_code, receipt_code, verdict_code}
 use Rattle.batcher_ffi.specs.Output.{FillsRoom, WritesAll}
 use Rattle.batcher_ffi.specs.Rounds.{AreOfParticipants, AreVerifiedBy, IsVerifiedBy, is_one_of}
@@ -155,10 +162,17 @@ loop_participants l = length l.validator.voter.node.scheme.participants
 
 -- what its disk is to have, and what the caller has written there
 abbrev pub loop_log : CLoop → List ℕ
-loop_log l = l.validator.voter.journal.log.bytes
+loop_log l = log_of l.validator
+
+abbrev pub loop_copy : CLoop → CopyView
+loop_copy l = l.validator.voter.journal.log.copy
 
 abbrev pub loop_disk : CLoop → List ℕ
-loop_disk l = l.validator.voter.journal.log.copy
+loop_disk l = disk_of l.validator
+
+-- the number of the write that is under way, and what the disk has once that is done
+abbrev pub loop_writing : CLoop → Option (ℕ × List ℕ)
+loop_writing l = under_way_of l.validator
 
 -- the certificates that it keeps
 abbrev pub kept_in : CLoop → List (Certificate ProofView Sha256Digest)
@@ -172,6 +186,10 @@ module _ (handle : Option CLoop) where
   abbrev pub AreVerifiedFor : ℕ → FlatProposal → List FlatAttestation → List Bool → Type 0
   AreVerifiedFor kind proposal list verdicts =
       IfSome handle (λ l. AreVerifiedBy (loop_keys l) kind proposal list verdicts)
+
+-- and the votes of earlier lives that its journal has
+abbrev pub earlier_in : CLoop → List (Vote Signature Sha256Digest)
+earlier_in l = take l.validator.given.tally.begun l.validator.voter.journal.contents.votes
 
 -- why there is no validator of what a disk has
 abbrev pub open_code : OpenFault → ℕ
@@ -231,6 +249,7 @@ pub record IsMade (options : LoopOptions) (namespace disk : List ℕ) (l : CLoop
   pub retains_is : l.validator.voter.node.retains ≡ options.track_historical_votes
   pub goes_on : GoesOnFrom options.begins disk l
   pub on_disk : loop_disk l ≡ disk
+  pub no_write : loop_writing l ≡ None
 
 -- The journal on the disk is of another owner, or of another epoch.
 abbrev pub IsOthers : LoopOptions → OwnerFields → List ℕ → Type 0
@@ -322,16 +341,33 @@ IsLentOf l view kind = IsLentBy (LooksAtKindThere loop_round_config
 
 -- Questions to a validator, and what is answered to them. It stays as it was.
 module _ (l : CLoop) (code : ℕ) where
-  -- What is to be written, behind what is there or in its place.
+  -- What is to be written, behind what is there or in its place, where no write is under way.
   pub record AsksOwed (room list : List ℕ) (old count : ℕ) (was replaces : Bool) : Type 0 where
     pub codes : is_one_of (DONE ∷ IDLE ∷ SHORT ∷ []) code ≡ true
-    pub none : code ≡ IDLE → loop_disk l ≡ loop_log l
+    pub none : code ≡ IDLE → loop_writing l ≡ None → loop_disk l ≡ loop_log l
     pub stays : code ≡ IDLE → (list ≡ room) × ((count ≡ old) × (replaces ≡ was))
     pub owed : List ℕ
     pub has_all : code ≢ IDLE
         → MatchBool replaces (owed ≡ loop_log l) (loop_disk l ++ owed ≡ loop_log l)
     pub lacks : code ≢ IDLE → loop_disk l ≢ loop_log l
+    pub waits : code ≢ IDLE → loop_writing l ≡ None
     pub written : code ≢ IDLE → WritesAll owed room list count code
+
+  -- A certificate is kept, and its proposal is written.
+  pub record NamesKept (key : Kind × Round) (kind : ℕ) (out : FlatProposal) : Type 0 where
+    pub codes : code ≡ DONE
+    pub certificate : Certificate ProofView Sha256Digest
+    pub there : Contains (kept_in l) certificate
+    pub key_is : kind_and_round certificate ≡ key
+    pub subject : subject_in kind out ≡ Some (subject_certified certificate)
+
+  -- One of a kind and a round, if it is kept.
+  abbrev pub AsksCertified : ℕ → FlatProposal → FlatProposal → Type 0
+  AsksCertified kind asked out =
+      MatchOption (kind_in kind) ((code ≡ MALFORMED) × (out ≡ asked)) (λ typed.
+      NamesKept (typed, round_of_flat asked) kind out
+      ⊎ ((code ≡ IDLE) × ((out ≡ asked)
+      × (HasKey kind_and_round (kept_in l) (typed, round_of_flat asked) → ⊥))))
 
   -- A certificate is kept, and its bytes and its proposal are written.
   pub record GivesKept (key : Kind × Round) (kind : ℕ) (asked out : FlatProposal)
@@ -343,14 +379,46 @@ module _ (l : CLoop) (code : ℕ) where
     pub subject : code ≡ DONE → subject_in kind out ≡ Some (subject_certified certificate)
     pub short : code ≡ SHORT → out ≡ asked
 
-  -- One of a kind and a round, if it is kept.
+  -- One of a kind and a round is written, if it is kept.
+  abbrev pub ShowsKept : Kind → ℕ → FlatProposal → FlatProposal → List ℕ → List ℕ → ℕ → ℕ
+      → Type 0
+  ShowsKept typed kind asked out room list old count =
+      GivesKept (typed, round_of_flat asked) kind asked out room list count
+      ⊎ ((code ≡ IDLE) × ((list ≡ room) × ((out ≡ asked) × ((count ≡ old)
+      × (HasKey kind_and_round (kept_in l) (typed, round_of_flat asked) → ⊥)))))
+
+  -- Where something isn't written, the certificate may have an own vote that the disk lacks.
   abbrev pub AsksKept : ℕ → FlatProposal → FlatProposal → List ℕ → List ℕ → ℕ → ℕ → Type 0
   AsksKept kind asked out room list old count =
       MatchOption (kind_in kind)
       ((code ≡ MALFORMED) × ((list ≡ room) × ((out ≡ asked) × (count ≡ old)))) (λ typed.
-      GivesKept (typed, round_of_flat asked) kind asked out room list count
-      ⊎ ((code ≡ IDLE) × ((list ≡ room) × ((out ≡ asked) × ((count ≡ old)
-      × (HasKey kind_and_round (kept_in l) (typed, round_of_flat asked) → ⊥))))))
+      (IsAllWritten l.validator × ShowsKept typed kind asked out room list old count)
+      ⊎ ((code ≡ NOT_WRITTEN) × ((IsAllWritten l.validator → ⊥)
+      × ((list ≡ room) × ((out ≡ asked) × (count ≡ old))))))
+
+  -- A vote of an earlier life, by its place among these.
+  abbrev pub AsksEarlier : ℕ → FlatVote → FlatVote → Type 0
+  AsksEarlier index old out =
+      MatchOption (slice_get (earlier_in l) index) ((code ≡ IDLE) × (out ≡ old)) (λ vote.
+      (code ≡ DONE) × (raw_vote_in out ≡ Some vote))
+
+  -- A certificate that is kept, by its place.
+  pub record GivesHeld (index before kind : ℕ) (old out : FlatProposal) (room list : List ℕ)
+      (count : ℕ) : Type 0 where
+    pub certificate : Certificate ProofView Sha256Digest
+    pub there : slice_get (kept_in l) index ≡ Some certificate
+    pub is_written : IsAllWritten l.validator
+    pub bytes : WritesAll (content_of certificate).bytes room list count code
+    pub subject : code ≡ DONE → subject_in kind out ≡ Some (subject_certified certificate)
+    pub short : code ≡ SHORT → (kind ≡ before) × (out ≡ old)
+
+  -- None is shown where something isn't written: it may have an own vote that the disk lacks.
+  pub record HasNoHeld (index before kind : ℕ) (old out : FlatProposal) (room list : List ℕ)
+      (was count : ℕ) : Type 0 where
+    pub codes : (code ≡ IDLE) ⊎ (code ≡ NOT_WRITTEN)
+    pub none : code ≡ IDLE → length (kept_in l) ≤ index
+    pub waits : code ≡ NOT_WRITTEN → IsAllWritten l.validator → ⊥
+    pub stays : (kind ≡ before) × ((out ≡ old) × ((list ≡ room) × (count ≡ was)))
 
 -- Calls of a validator, and what is answered to them.
 module _ (before : CLoop) (code : ℕ) (after : CLoop) where
@@ -372,29 +440,45 @@ module _ (before : CLoop) (code : ℕ) (after : CLoop) where
     pub answer : Result (Option Next) PollFault
     pub written : AnswersPoll answer code old out
     pub proposed : IsProposedIn before.validator.voter.node.epoch out ⊎ (code ≢ DONE)
-    pub writes : code ≡ WRITE → (after ≡ before) × (loop_disk before ≢ loop_log before)
-    pub is_written : code ≡ DONE → loop_disk before ≡ loop_log before
+    pub writes : code ≡ WRITE → (after ≡ before) × ((loop_disk before ≢ loop_log before)
+        × (loop_writing before ≡ None))
+    pub is_written : (task : Task Signature Sha256Digest) → answer ≡ Ok (Some (Do task))
+        → IsGivenMeanwhile task ⊎ IsAllWritten before.validator
     pub gives : (task : Task Signature Sha256Digest) → answer ≡ Ok (Some (Do task))
         → Gives (loop_config before) before.validator after.validator task
     pub ready : (task : Task Signature Sha256Digest) → answer ≡ Ok (Some (Do task))
         → IsReadyTask before.validator task
     pub less : (task : Task Signature Sha256Digest) → answer ≡ Ok (Some (Do task))
         → HasLessLeft (loop_config before) before.validator after.validator task
-    pub nothing : code ≡ IDLE → ForEachRun (loop_config before) before.validator
+    pub nothing : code ≡ IDLE → loop_writing before ≡ None
+        → ForEachRun (loop_config before) before.validator
         (λ past earlier. NothingIsDue (loop_config before) earlier past)
+    pub waits : code ≡ IDLE → loop_writing before ≢ None
+        → ForEachRun (loop_config before) before.validator
+        (λ past earlier. NothingIsDueMeanwhile (loop_config before) earlier past)
     pub rests : code ≡ IDLE → LoopRests
     pub why : OnErr answer ((before.validator.voter.journal.is_open ≡ false)
         ⊎ IsToAnnounce before.validator.given.announced (kept_in before))
     pub refused : OnErr answer LoopRests
     pub closed : code ≡ CLOSED → after.validator.voter.journal.is_open ≡ false
     pub full : code ≡ FULL → after.validator.voter.journal.is_open ≡ true
-    pub on_disk : loop_disk after ≡ loop_disk before
+    pub on_disk : loop_copy after ≡ loop_copy before
 
-  -- What is owed is written, and nothing else changes.
-  pub record Wrote : Type 0 where
-    pub codes : code ≡ DONE
-    pub written : loop_disk after ≡ loop_log after
-    pub validator : after.validator ≡ noted before.validator
+  -- What is handed out is under way, and nothing else changes.
+  pub record Gave (number : ℕ) : Type 0 where
+    pub given : code ≡ DONE → after.validator ≡ with_write_given before.validator number
+    pub refused : code ≢ DONE → after ≡ before
+    pub rests : LoopRests
+
+  -- What was under way is written, and nothing that came since.
+  pub record Wrote (number : ℕ) : Type 0 where
+    pub codes : is_one_of (DONE ∷ NOT_GIVEN ∷ []) code ≡ true
+    pub was_given : code ≡ DONE
+        → option_map (λ it. it.0) (loop_writing before) ≡ Some number
+    pub written : code ≡ DONE → after.validator ≡ with_write_done before.validator
+    pub not_given : code ≡ NOT_GIVEN
+        → option_map (λ it. it.0) (loop_writing before) ≢ Some number
+    pub refused : code ≡ NOT_GIVEN → after ≡ before
     pub rests : LoopRests
 
   -- a vote of a peer, whose key is the number
@@ -409,7 +493,7 @@ module _ (before : CLoop) (code : ℕ) (after : CLoop) where
     pub needed : OnErr answer (MayNeedIn (loop_config before) before.validator.voter.node
         (round_in (subject_of vote)).view.0 (NetworkCall (record { 0 = peer }) vote))
     pub refused : OnErr answer (after ≡ before)
-    pub on_disk : loop_disk after ≡ loop_disk before
+    pub on_disk : loop_copy after ≡ loop_copy before
 
   abbrev pub HearsVote : ℕ → FlatVote → FlatAdmission → FlatAdmission → Type 0
   HearsVote peer vote old out =
@@ -429,14 +513,18 @@ module _ (before : CLoop) (code : ℕ) (after : CLoop) where
         before.validator.voter (record { 0 = peer }) certificate)
     pub refused : OnErr answer LoopRests
 
-  -- or from beyond the window, where who fell behind goes on by it.
+  -- or from beyond the window, where who fell behind goes on by it: it is learned and kept.
   pub record IsFromAhead (certificate : Certificate ProofView Sha256Digest) : Type 0 where
     pub codes : is_one_of (DONE ∷ FORGED ∷ OUT_OF_MEMORY ∷ []) code ≡ true
-    pub took_in : code ≡ DONE → Notes (took certificate)
+    pub took_in : code ≡ DONE
+        → RunTakes (loop_config before) certificate before.validator after.validator
     pub forged : code ≡ FORGED
         → certifies_itself (loop_config before).meaning certificate ≡ false
     pub forged_stays : code ≡ FORGED → after ≡ before
     pub needed : code ≡ OUT_OF_MEMORY → IsShelfFull
+        ⊎ (HasRoom before.validator.voter.knowledge
+        (round_in (subject_certified certificate)).view.0
+        → IsKnownAlready before.validator.voter.knowledge (subject_certified certificate) → ⊥)
     pub refused : code ≡ OUT_OF_MEMORY → LoopRests
 
   -- memory is refused for the copy of its bytes
@@ -457,7 +545,7 @@ module _ (before : CLoop) (code : ℕ) (after : CLoop) where
     }
     pub came : MatchBool (is_ahead before (round_in subject)) (IsFromAhead certificate)
         (IsOfPeer peer certificate)
-    pub on_disk : loop_disk after ≡ loop_disk before
+    pub on_disk : loop_copy after ≡ loop_copy before
 
   abbrev pub HearsCertificate : ℕ → ℕ → FlatProposal → List ℕ → Bool → Type 0
   HearsCertificate peer kind proposal bytes certifies =
@@ -478,7 +566,7 @@ module _ (before : CLoop) (code : ℕ) (after : CLoop) where
     pub none : code ≡ IDLE → LendsNone before
     pub refused : code ≡ OUT_OF_MEMORY → LoopRests
     pub stays : code ≢ VERIFY → (out ≡ old) × (list ≡ room)
-    pub on_disk : loop_disk after ≡ loop_disk before
+    pub on_disk : loop_copy after ≡ loop_copy before
 
   -- Of a view that is named nothing is made, and nothing changes.
   pub record LendsOf (view : ℕ) (kind : Kind) (old out : FlatStep)
@@ -511,7 +599,7 @@ module _ (before : CLoop) (code : ℕ) (after : CLoop) where
     pub needed : code ≡ OUT_OF_MEMORY
         → IsShelfFull ⊎ ConstructionNeeds (loop_config before) before.validator.voter
     pub refused : code ≡ OUT_OF_MEMORY → LoopRests
-    pub on_disk : loop_disk after ≡ loop_disk before
+    pub on_disk : loop_copy after ≡ loop_copy before
 
   -- Verdicts on what was lent.
   pub record Concludes (kind : ℕ) (proposal : FlatProposal) (list : List FlatAttestation)
@@ -528,7 +616,7 @@ module _ (before : CLoop) (code : ℕ) (after : CLoop) where
         ⊎ (IsShelfFull ⊎ ConstructionNeeds (loop_config before) before.validator.voter)
     pub refused : code ≡ OUT_OF_MEMORY → LoopRests
     pub stays : code ≡ MALFORMED → after ≡ before
-    pub on_disk : loop_disk after ≡ loop_disk before
+    pub on_disk : loop_copy after ≡ loop_copy before
 
   -- a vote of its own that attests
   pub record VoteCast (vote : Vote Signature Sha256Digest) : Type 0 where
@@ -540,13 +628,14 @@ module _ (before : CLoop) (code : ℕ) (after : CLoop) where
         RunMayWrite (loop_config before) vote past earlier after.validator))
     pub why : IfErr answer (λ fault. WhyNotCast (loop_config before) same_digest
         before.validator.voter vote fault after.validator.voter)
-    pub on_disk : loop_disk after ≡ loop_disk before
+    pub on_disk : loop_copy after ≡ loop_copy before
 
-  -- one that doesn't attest, or whose signer takes no part
+  -- One that doesn't attest, or whose signer takes no part. Nothing is written.
   pub record IsNotVerified (vote : Vote Signature Sha256Digest) (attests : Bool) : Type 0 where
     pub code_is : code ≡ NOT_VERIFIED
     pub why : (nat_lt (attestation_of vote).signer.0 (loop_participants before) && attests) ≡ false
-    pub stays : after ≡ before
+    pub refuses : Notes (refused (subject_of vote))
+    pub unwritten : after.validator.voter ≡ before.validator.voter
 
   abbrev pub CastsOwn : FlatVote → Bool → Type 0
   CastsOwn vote attests =
@@ -562,7 +651,7 @@ module _ (before : CLoop) (code : ℕ) (after : CLoop) where
         → IsLedByAnother (slot_at before.validator.voter.node.rounds view) (participant leader)
     pub needed : code ≡ OUT_OF_MEMORY → slot_at before.validator.voter.node.rounds view ≡ None
     pub refused : OnErr answer (after ≡ before)
-    pub on_disk : loop_disk after ≡ loop_disk before
+    pub on_disk : loop_copy after ≡ loop_copy before
 
   -- Whether a proposal is valid. Of a view that it isn't in yet nothing is noted.
   pub record Judges (proposal : FlatProposal) (valid : Bool) : Type 0 where
@@ -572,7 +661,7 @@ module _ (before : CLoop) (code : ℕ) (after : CLoop) where
     pub gives_up : valid ≡ false → proposal.view ≤ before.validator.voter.node.window.current
         → Notes (expired proposal.view)
     pub ahead : before.validator.voter.node.window.current < proposal.view → after ≡ before
-    pub on_disk : loop_disk after ≡ loop_disk before
+    pub on_disk : loop_copy after ≡ loop_copy before
 
   -- The time of a view is over, and all that is to be sent is given again.
   pub record Expires (view : ℕ) : Type 0 where
@@ -581,4 +670,4 @@ module _ (before : CLoop) (code : ℕ) (after : CLoop) where
         → ForEachRun (loop_config before) before.validator (λ past earlier.
         IsRunning (loop_config before) (again ∷ expired view ∷ past) earlier after.validator)
     pub ahead : before.validator.voter.node.window.current < view → Notes again
-    pub on_disk : loop_disk after ≡ loop_disk before
+    pub on_disk : loop_copy after ≡ loop_copy before

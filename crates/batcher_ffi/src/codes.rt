@@ -68,6 +68,10 @@ pub const OTHER_OWNER: u8 = 30;
 pub const DAMAGED: u8 = 31;
 /// What is to be done to the files already is to be done first.
 pub const UNFINISHED: u8 = 32;
+/// It waits until the disk has all that was done.
+pub const NOT_WRITTEN: u8 = 33;
+/// No write is under way by this number.
+pub const NOT_GIVEN: u8 = 34;
 
 /// Kinds of votes and certificates.
 pub const NOTARIZATION: u8 = 0;

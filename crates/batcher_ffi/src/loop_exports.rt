@@ -1,9 +1,10 @@
 //! The functions of a validator that C calls. Each answers a code of the header.
 
-ghost use Rattle.std.specs.Prelude.{◌≡◌, ⊤, None};
+ghost use Rattle.std.specs.Prelude.{◌≡◌, ◌⊎◌, ⊤, None};
 ghost use Rattle.batcher_ffi.specs.Handles.{OnLoop};
-ghost use Rattle.batcher_ffi.specs.Loops.{AreVerifiedFor, AsksKept, AsksOwed, CastsOwn, Concludes};
-ghost use Rattle.batcher_ffi.specs.Loops.{EntersNext, Expires, HearsCertificate, HearsVote};
+ghost use Rattle.batcher_ffi.specs.Loops.{AreVerifiedFor, AsksCertified, AsksEarlier, AsksKept};
+ghost use Rattle.batcher_ffi.specs.Loops.{AsksOwed, CastsOwn, Concludes, EntersNext, Expires};
+ghost use Rattle.batcher_ffi.specs.Loops.{Gave, GivesHeld, HasNoHeld, HearsCertificate, HearsVote};
 ghost use Rattle.batcher_ffi.specs.Loops.{IsVerifiedFor, Judges, LendsIn, MakesLoop, Polls, Wrote};
 ghost use Rattle.batcher_ffi.specs.Progress.{AsksProgress};
 
@@ -61,35 +62,37 @@ pub extern "C" fn batcher_loop_poll(validator: &mut LoopHandle, out: &mut FlatTa
     loops::poll(validator, out)
 }
 
-/// What is to be written to the disk: behind what is there, or in its place.
+/// What is to be written to the disk: behind what is there, or in its place. Where it fits into the
+/// room, it is handed out and under way from now on, by this number.
 #[unsafe(no_mangle)]
-pub extern "C" fn batcher_loop_owed(
+pub extern "C" fn batcher_loop_give(
     validator: &mut LoopHandle,
+    number: u64,
     room: &mut [u8],
     count: &mut u64,
     replaces: &mut bool,
 ) -> u8
     ensures { OnLoop validator.old.value validator.new.value result ((room.new ≡ room.old)
         × ((count.new ≡ count.old) × (replaces.new ≡ replaces.old))) (λ before after.
-        (after ≡ before) × AsksOwed before result room.old room.new count.old count.new
-        replaces.old replaces.new) }
+        Gave before result after number × AsksOwed before result room.old room.new count.old
+        count.new replaces.old replaces.new) }
 {
     let Some(validator) = validator.as_mut() else {
         return NONE;
     };
-    loops::owed(validator, room, count, replaces)
+    loops::give(validator, number, room, count, replaces)
 }
 
-/// What is owed is written, and lasts.
+/// The write that is under way by this number is done, and lasts.
 #[unsafe(no_mangle)]
-pub extern "C" fn batcher_loop_wrote(validator: &mut LoopHandle) -> u8
+pub extern "C" fn batcher_loop_wrote(validator: &mut LoopHandle, number: u64) -> u8
     ensures { OnLoop validator.old.value validator.new.value result (Unit {0}) (λ before after.
-        Wrote before result after) }
+        Wrote before result after number) }
 {
     let Some(validator) = validator.as_mut() else {
         return NONE;
     };
-    loops::wrote(validator)
+    loops::wrote(validator, number)
 }
 
 /// Takes in a vote that was sent by the peer with this key.
@@ -172,7 +175,7 @@ pub extern "C" fn batcher_loop_conclude(
 }
 
 /// Casts a vote of its own, by the caller's verdict on it: one that was to be signed, or to be cast
-/// again.
+/// again. One that doesn't attest isn't written, and is to be signed again once a time is over.
 #[unsafe(no_mangle)]
 pub extern "C" fn batcher_loop_cast(
     validator: &mut LoopHandle,
@@ -232,6 +235,63 @@ pub extern "C" fn batcher_loop_expire(
         return NONE;
     };
     loops::expire(validator, view, out)
+}
+
+/// The proposal of the certificate of this kind and of the round of the proposal, if one is kept.
+#[unsafe(no_mangle)]
+pub extern "C" fn batcher_loop_certified(
+    validator: &mut LoopHandle,
+    kind: u8,
+    proposal: &mut FlatProposal,
+) -> u8
+    ensures { OnLoop validator.old.value validator.new.value result (proposal.new ≡ proposal.old)
+        (λ before after. (after ≡ before)
+        × AsksCertified before result kind proposal.old proposal.new) }
+{
+    let Some(validator) = validator.as_mut() else {
+        return NONE;
+    };
+    loops::certified(validator, kind, proposal)
+}
+
+/// The vote at a place among those of earlier lives, which its disk had: to be verified before
+/// the first poll.
+#[unsafe(no_mangle)]
+pub extern "C" fn batcher_loop_own_vote(
+    validator: &mut LoopHandle,
+    index: u64,
+    out: &mut FlatVote,
+) -> u8
+    ensures { OnLoop validator.old.value validator.new.value result (out.new ≡ out.old)
+        (λ before after. (after ≡ before) × AsksEarlier before result index out.old out.new) }
+{
+    let Some(validator) = validator.as_mut() else {
+        return NONE;
+    };
+    loops::own_vote(validator, index, out)
+}
+
+/// The certificate at a place among those that are kept: its kind, its bytes, and the proposal.
+/// Before the first poll they are those that its disk had.
+#[unsafe(no_mangle)]
+pub extern "C" fn batcher_loop_held(
+    validator: &mut LoopHandle,
+    index: u64,
+    kind: &mut u8,
+    proposal: &mut FlatProposal,
+    room: &mut [u8],
+    count: &mut u64,
+) -> u8
+    ensures { OnLoop validator.old.value validator.new.value result ((kind.new ≡ kind.old)
+        × ((proposal.new ≡ proposal.old) × ((room.new ≡ room.old) × (count.new ≡ count.old))))
+        (λ before after. (after ≡ before) × (GivesHeld before result index kind.old kind.new
+        proposal.old proposal.new room.old room.new count.new ⊎ HasNoHeld before result index
+        kind.old kind.new proposal.old proposal.new room.old room.new count.old count.new)) }
+{
+    let Some(validator) = validator.as_mut() else {
+        return NONE;
+    };
+    loops::held(validator, index, kind, proposal, room, count)
 }
 
 /// The certificate of this kind and of the round of the proposal, if one is kept: its bytes, and

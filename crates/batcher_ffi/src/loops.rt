@@ -1,19 +1,26 @@
 //! The calls of a validator, over flat values. Each answers a code.
 
-ghost use Rattle.std.specs.Prelude.{◌≡◌, ◌≢◌, ◌<◌, ◌≤◌, ◌⊎◌, [], IfErr, IfOk, MatchBool, Some};
-ghost use Rattle.std.specs.Prelude.{false, length, map, true};
-ghost use Rattle.batcher_types.specs.Votes.{attestation_of, round_in, subject_certified};
-ghost use Rattle.batcher_types.specs.Votes.{subject_of};
-ghost use Rattle.batcher_validator.specs.Histories.{answered};
+ghost use Rattle.std.specs.Prelude.{◌≡◌, ◌≢◌, ◌<◌, ◌≤◌, ◌⊎◌, [], IfErr, IfOk, MatchBool, None};
+ghost use Rattle.std.specs.Prelude.{Some, false, length, map, true};
+ghost use Rattle.batcher_types.specs.Votes.{attestation_of, content_of, round_in};
+ghost use Rattle.batcher_types.specs.Votes.{subject_certified, subject_of};
+ghost use Rattle.batcher_validator.specs.Histories.{answered, refused};
 ghost use Rattle.batcher_validator.specs.Running.{HasConstructed};
 ghost use Rattle.batcher_voter.specs.Needing.{ConstructionNeeds};
-ghost use Rattle.batcher_ffi.specs.Loops.{AnswersPoll, AreVerifiedFor, AsksKept, AsksOwed};
-ghost use Rattle.batcher_ffi.specs.Loops.{CastsOwn, Concludes, EntersNext, Expires};
+ghost use Rattle.batcher_ffi.specs.Loops.{AnswersPoll, AreVerifiedFor, AsksCertified};
+ghost use Rattle.batcher_ffi.specs.Loops.{AsksEarlier, AsksKept};
+ghost use Rattle.batcher_ffi.specs.Loops.{AsksOwed, CastsOwn, Concludes, EntersNext, Expires};
+ghost use Rattle.batcher_ffi.specs.Loops.{GivesHeld, HasNoHeld};
+ghost use Rattle.batcher_ffi.specs.Flat.{subject_in};
+ghost use Rattle.batcher_ffi.specs.Output.{WritesAll};
 ghost use Rattle.batcher_ffi.specs.Loops.{HearsCertificate, HearsVote, IsConcluded, IsFromAhead};
 ghost use Rattle.batcher_ffi.specs.Loops.{IsLent, IsMade, IsOfPeer, IsVerifiedFor, Judges, Lends};
-ghost use Rattle.batcher_ffi.specs.Loops.{Notes, Polls, LoopRests, VoteCast, WhyNotMade, Wrote};
+ghost use Rattle.batcher_ffi.specs.Flat.{kind_in};
+ghost use Rattle.batcher_ffi.specs.Loops.{Gave, Notes, Polls, LoopRests, ShowsKept, VoteCast};
+ghost use Rattle.batcher_ffi.specs.Loops.{WhyNotMade, Wrote};
 ghost use Rattle.batcher_ffi.specs.Loops.{loop_config, GoesOnFrom, IsLentOf, IsOf, IsOthers};
-ghost use Rattle.batcher_ffi.specs.Loops.{LendsIn, LendsNone, LendsNoneOf, LendsOf, loop_disk};
+ghost use Rattle.batcher_ffi.specs.Loops.{LendsIn, LendsNone, LendsNoneOf, LendsOf, loop_copy};
+ghost use Rattle.batcher_ffi.specs.Loops.{loop_disk, loop_writing};
 ghost use Rattle.batcher_ffi.specs.Loops.{is_ahead, loop_participants, start_code, start_codes};
 ghost use Rattle.batcher_ffi.specs.Progress.{AsksProgress};
 ghost use Rattle.batcher_ffi.specs.Rounds.{is_one_of};
@@ -24,8 +31,8 @@ use crate::answers::{enter_code_of, verdict_code_of, write_receipt};
 use crate::caller::Caller;
 use crate::codes::{
     BEGUN, CLOSED, DAMAGED, DONE, ELSEWHERE, FORGED, FULL, IDLE, KNOWN, MALFORMED, NOT_BEGUN,
-    NOT_OWN, NOT_VERIFIED, OTHER_OWNER, OTHER_VERSION, OUT_OF_MEMORY, REFUSED, SHORT, SIGNED,
-    STALE, VERIFY, WRITE,
+    NOT_GIVEN, NOT_OWN, NOT_VERIFIED, NOT_WRITTEN, OTHER_OWNER, OTHER_VERSION, OUT_OF_MEMORY,
+    REFUSED, SHORT, SIGNED, STALE, VERIFY, WRITE,
 };
 use crate::flat::{
     FlatAdmission, FlatAttestation, FlatProposal, FlatStep, FlatVote, fault_code, flat_subject,
@@ -113,7 +120,7 @@ fn begun(
     requires { 1 ≤ length scheme.value.participants }
     ensures is_of { IfOk result (IsOf options.now scheme.value (fields_of owner.now)) }
     ensures goes_on { IfOk result (GoesOnFrom true []) }
-    ensures on_disk { IfOk result (λ it. loop_disk it ≡ []) }
+    ensures on_disk { IfOk result (λ it. (loop_disk it ≡ []) × (loop_writing it ≡ None)) }
     ensures refused { IfErr result (λ code. code ≡ OUT_OF_MEMORY) }
 {
     match Loop::begin(
@@ -140,7 +147,8 @@ fn started(
     requires { 1 ≤ length scheme.value.participants }
     ensures is_of { IfOk result (IsOf options.now scheme.value (fields_of owner.now)) }
     ensures goes_on { IfOk result (GoesOnFrom false disk.now) }
-    ensures on_disk { IfOk result (λ it. loop_disk it ≡ disk.now) }
+    ensures on_disk { IfOk result (λ it.
+        (loop_disk it ≡ disk.now) × (loop_writing it ≡ None)) }
     ensures refused { IfErr result (λ code. is_one_of start_codes code ≡ true) }
     ensures not_begun { IfErr result (λ code. code ≡ NOT_BEGUN → disk.now ≡ []) }
     ensures others { IfErr result (λ code. code ≡ OTHER_OWNER
@@ -223,8 +231,28 @@ fn write_next(answer: &Result<Option<Next>, PollFault>, epoch: Epoch, out: &mut 
     }
 }
 
-/// What is to be written to the disk, behind what is there or in its place.
-pub fn owed(it: &Looping, room: &mut [u8], count: &mut u64, replaces: &mut bool) -> u8
+/// What is to be written to the disk, behind what is there or in its place. Once it is handed out,
+/// it is under way by this number.
+pub fn give(
+    it: &mut Looping,
+    number: u64,
+    room: &mut [u8],
+    count: &mut u64,
+    replaces: &mut bool,
+) -> u8
+    ensures asks { AsksOwed it.old result room.old room.new count.old count.new replaces.old
+        replaces.new }
+    ensures gives { Gave it.old result it.new number }
+{
+    let code = write_owed(it, room, count, replaces);
+    if code != DONE {
+        return code;
+    }
+    it.give(number);
+    DONE
+}
+
+fn write_owed(it: &Looping, room: &mut [u8], count: &mut u64, replaces: &mut bool) -> u8
     ensures { AsksOwed it.now result room.old room.new count.old count.new replaces.old
         replaces.new }
 {
@@ -237,12 +265,11 @@ pub fn owed(it: &Looping, room: &mut [u8], count: &mut u64, replaces: &mut bool)
     }
 }
 
-/// What is owed is written.
-pub fn wrote(it: &mut Looping) -> u8
-    ensures { Wrote it.old result it.new }
+/// The write that is under way by this number lasts.
+pub fn wrote(it: &mut Looping, number: u64) -> u8
+    ensures { Wrote it.old result it.new number }
 {
-    it.wrote();
-    DONE
+    if it.wrote(number) { DONE } else { NOT_GIVEN }
 }
 
 /// Takes in a vote of the peer whose key is the number.
@@ -294,7 +321,7 @@ fn is_ahead(it: &Looping, round: Round) -> bool
 
 fn catch_up(it: &mut Looping, certificate: Certificate<Proof, Sha256Digest>) -> u8
     ensures came { IsFromAhead it.old result it.new certificate }
-    ensures on_disk { loop_disk it.new ≡ loop_disk it.old }
+    ensures on_disk { loop_copy it.new ≡ loop_copy it.old }
 {
     match it.validator.catch_up(certificate) {
         Ok(true) => DONE,
@@ -309,7 +336,7 @@ fn hear_certificate(
     certificate: Certificate<Proof, Sha256Digest>,
 ) -> u8
     ensures came { IsOfPeer it.old result it.new peer certificate }
-    ensures on_disk { loop_disk it.new ≡ loop_disk it.old }
+    ensures on_disk { loop_copy it.new ≡ loop_copy it.old }
 {
     let answer = it.validator.receive_certificate(Name(peer), certificate);
     verdict_code_of(&answer)
@@ -419,7 +446,7 @@ fn rest(it: &mut Looping) -> u8
     ensures needed { result ≡ OUT_OF_MEMORY → (it.old.validator.shelf.room ≡ 0)
         ⊎ ConstructionNeeds (loop_config it.old) it.old.validator.voter }
     ensures refused { result ≡ OUT_OF_MEMORY → LoopRests it.old result it.new }
-    ensures on_disk { loop_disk it.new ≡ loop_disk it.old }
+    ensures on_disk { loop_copy it.new ≡ loop_copy it.old }
 {
     match it.validator.try_construct(&mut Counter::new(0)) {
         Ok(_) => IDLE,
@@ -472,7 +499,8 @@ fn conclude_by(
     }
 }
 
-/// Casts a vote of its own, by the caller's verdict on it.
+/// Casts a vote of its own, by the caller's verdict on it. One that doesn't attest isn't written,
+/// and is given to be signed again once a time is over.
 pub fn cast(it: &mut Looping, vote: &FlatVote, attests: bool) -> u8
     requires { IsVerifiedFor (Some it.old) vote.now attests }
     ensures { CastsOwn it.old result it.new vote.now attests }
@@ -481,9 +509,18 @@ pub fn cast(it: &mut Looping, vote: &FlatVote, attests: bool) -> u8
         return MALFORMED;
     };
     if !is_verified(&typed, attests, it.validator.participants()) {
-        return NOT_VERIFIED;
+        return refuse(it, &typed);
     }
     cast_verified(it, typed)
+}
+
+fn refuse(it: &mut Looping, vote: &Vote<Signature, Sha256Digest>) -> u8
+    ensures codes { result ≡ NOT_VERIFIED }
+    ensures refuses { Notes it.old result it.new (refused (subject_of vote.now)) }
+    ensures unwritten { it.new.validator.voter ≡ it.old.validator.voter }
+{
+    it.validator.refuse(&vote.subject());
+    NOT_VERIFIED
 }
 
 fn cast_verified(it: &mut Looping, vote: Vote<Signature, Sha256Digest>) -> u8
@@ -531,7 +568,83 @@ pub fn expire(it: &mut Looping, view: u64, out: &mut FlatProgress) -> u8
     DONE
 }
 
-/// The certificate of this kind and of the round of the proposal, if one is kept.
+/// The proposal of the certificate of this kind and of the round of the proposal, if one is kept.
+/// That shows no vote, so it doesn't wait for the disk.
+pub fn certified(it: &Looping, kind: u8, proposal: &mut FlatProposal) -> u8
+    ensures { AsksCertified it.now result kind proposal.old proposal.new }
+{
+    let Some(typed) = kind_of(kind) else {
+        return MALFORMED;
+    };
+    match it.validator.certificate(typed, proposal.round()) {
+        Some(certificate) => {
+            let (_, whole) = flat_subject(&certificate.subject());
+            *proposal = whole;
+            DONE
+        }
+        None => IDLE,
+    }
+}
+
+/// The vote at a place among those of earlier lives.
+pub fn own_vote(it: &Looping, index: u64, out: &mut FlatVote) -> u8
+    ensures { AsksEarlier it.now result index out.old out.new }
+{
+    match it.validator.earlier_votes().get(index as usize) {
+        Some(vote) => {
+            out.write(vote);
+            DONE
+        }
+        None => IDLE,
+    }
+}
+
+/// The certificate at a place among those that are kept, where all is written.
+pub fn held(
+    it: &Looping,
+    index: u64,
+    kind: &mut u8,
+    proposal: &mut FlatProposal,
+    room: &mut [u8],
+    count: &mut u64,
+) -> u8
+    ensures { GivesHeld it.now result index kind.old kind.new proposal.old proposal.new room.old
+        room.new count.new ⊎ HasNoHeld it.now result index kind.old kind.new proposal.old
+        proposal.new room.old room.new count.old count.new }
+{
+    if it.is_written() {
+        return match it.validator.certificates().get(index as usize) {
+            Some(certificate) => write_held(certificate, kind, proposal, room, count),
+            None => IDLE,
+        };
+    }
+    NOT_WRITTEN
+}
+
+fn write_held(
+    certificate: &Certificate<Proof, Sha256Digest>,
+    kind: &mut u8,
+    proposal: &mut FlatProposal,
+    room: &mut [u8],
+    count: &mut u64,
+) -> u8
+    ensures bytes { WritesAll (content_of certificate.now).bytes room.old room.new count.new
+        result }
+    ensures subject { result ≡ DONE → subject_in kind.new proposal.new
+        ≡ Some (subject_certified certificate.now) }
+    ensures short { result ≡ SHORT → (kind.new ≡ kind.old) × (proposal.new ≡ proposal.old) }
+{
+    let code = write_all(certificate.content().bytes(), room, count);
+    if code == DONE {
+        let (code, whole) = flat_subject(&certificate.subject());
+        *kind = code;
+        *proposal = whole;
+    }
+    code
+}
+
+/// The certificate of this kind and of the round of the proposal, if one is kept. It may have an
+/// own vote, so it waits until all is written.
 pub fn kept(
     it: &Looping,
     kind: u8,
@@ -545,6 +658,24 @@ pub fn kept(
     let Some(typed) = kind_of(kind) else {
         return MALFORMED;
     };
+    if !it.is_written() {
+        return NOT_WRITTEN;
+    }
+    write_kept(it, typed, kind, proposal, room, count)
+}
+
+fn write_kept(
+    it: &Looping,
+    typed: Kind,
+    kind: u8,
+    proposal: &mut FlatProposal,
+    room: &mut [u8],
+    count: &mut u64,
+) -> u8
+    requires { kind_in kind ≡ Some typed }
+    ensures { ShowsKept it.now result typed kind proposal.old proposal.new room.old room.new
+        count.old count.new }
+{
     match it.validator.certificate(typed, proposal.round()) {
         Some(certificate) => {
             let code = write_all(certificate.content().bytes(), room, count);

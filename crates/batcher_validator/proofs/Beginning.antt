@@ -2,7 +2,7 @@
 use Rattle.batcher_validator.proofs.Words.{◌≡◌, ◌++◌, ◌∙◌, ℕ, zero, suc, Bool, true, false, List, [], ◌∷◌, Some, None, ap, arith, length, refl, replicate}
 use Rattle.batcher_validator.proofs.Words.{subst, sym, take, Contains, unwrap_or, slice_get, Participant, subject_of, Certificate, Format, Conduct, HasVoted}
 use Rattle.batcher_validator.proofs.Words.{Contents, take_all, Remembers, node_history, started, NodeConfig, NodeView, AreFirst, Recalls, HasBegun}
-use Rattle.batcher_validator.proofs.Words.{HasCertificate, IsRunning, ValidatorView, is_over_for, began, only_took, HasStarted}
+use Rattle.batcher_validator.proofs.Words.{HasCertificate, IsRunning, ValidatorView, is_over_for, began, nothing_unsigned, only_took, HasStarted}
 use Rattle.batcher_validator.proofs.Going.{never_calm}
 
 contains_none : {X : Type 0} (xs : List X) (x : X) → Contains (take 0 xs) x → ⊥
@@ -81,7 +81,14 @@ module _ {S D K G C L : Type 0} (x : NodeConfig D K G C) (validator : ValidatorV
         asked = 0;
         verifying = false;
         forwarding = None;
-        intent = record { me = me; signing = None; expired = 0; chosen = None; posed = 0 };
+        intent = record {
+          me = me;
+          signing = None;
+          unsigned = nothing_unsigned;
+          expired = 0;
+          chosen = None;
+          posed = 0;
+        };
       }
       → validator.shelf.certificates ≡ [] → validator.shelf.handed ≡ 0
       → (has : HasStarted x earlier validator.voter)
@@ -117,6 +124,7 @@ module _ {S D K G C L : Type 0} (x : NodeConfig D K G C) (validator : ValidatorV
         intends = rw (given) record {
           votes_as = refl;
           signs = refl;
+          refuses = refl;
           expires = refl;
           chooses = refl;
           poses = refl;
@@ -131,17 +139,18 @@ pub has_begun :
     → (has : HasStarted (config old.voter.node) earlier old.voter)
     → IsRunning (config old.voter.node) (began me has.past ∷ []) earlier old
     → Recalls (config old.voter.node) (HasCertificate format old.voter.journal.contents) old new
-    → new.voter ≡ old.voter → HasBegun (config new.voter.node) format earlier new
-has_begun config format old new earlier me owns has running recalls voter =
+    → new.voter.node ≡ old.voter.node → new.voter.journal ≡ old.voter.journal
+    → HasBegun (config new.voter.node) format earlier new
+has_begun config format old new earlier me owns has running recalls node journal =
     record {
       me = me;
-      owns = subst (λ v. me.0 ≡ v.journal.contents.owner.1.1.0) (sym voter) owns;
+      owns = subst (λ j. me.0 ≡ j.contents.owner.1.1.0) (sym journal) owns;
       past = has.past;
       held = recalls.held;
       has_all = λ c on_disk. recalls.has_all c
-          (subst (λ v. HasCertificate format v.journal.contents c) voter on_disk);
-      running = subst (λ v. IsRunning (config v.node) (only_took recalls.held ++ began me has.past ∷ []) earlier new) (sym voter)
+          (subst (λ j. HasCertificate format j.contents c) journal on_disk);
+      running = subst (λ n. IsRunning (config n) (only_took recalls.held ++ began me has.past ∷ []) earlier new) (sym node)
           (recalls.running (began me has.past ∷ []) earlier running);
-      asked_nothing = subst (λ v. node_history has.past ≡ started v.node.window ∷ []) (sym voter)
+      asked_nothing = subst (λ n. node_history has.past ≡ started n.window ∷ []) (sym node)
           has.asked_nothing;
     }

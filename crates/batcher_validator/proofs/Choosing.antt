@@ -1,6 +1,7 @@
 -- A validator goes on with what it is answered, and with what it gives to be signed, made and judged.
 use Rattle.batcher_validator.proofs.Words.{◌≡◌, ℕ, ◌∷◌, Some, ap, refl, max, Proposal, Subject, View, Conduct, NodeConfig, ValidatorHistory, chose, expired}
-use Rattle.batcher_validator.proofs.Words.{gave, later_of, IntentView, IsRunning, ValidatorView, MayGive, Judge, Propose, Sign}
+use Rattle.batcher_validator.proofs.Words.{refused}
+use Rattle.batcher_validator.proofs.Words.{gave, later_of, with_refused, IntentView, IsRunning, ValidatorView, MayGive, Judge, Propose, Sign}
 use Rattle.batcher_validator.proofs.Keeping.{kept_still}
 
 module _ {S D K G C L : Type 0} (x : NodeConfig D K G C) (old new : ValidatorView S G D L C)
@@ -31,6 +32,7 @@ module _ {S D K G C L : Type 0} (x : NodeConfig D K G C) (old new : ValidatorVie
           intends = rw (given, to) record {
             votes_as = is.intends.votes_as;
             signs = is.intends.signs;
+            refuses = is.intends.refuses;
             expires = is.intends.expires;
             chooses = ap (λ before. later_of before p) is.intends.chooses;
             poses = is.intends.poses;
@@ -60,7 +62,38 @@ module _ {S D K G C L : Type 0} (x : NodeConfig D K G C) (old new : ValidatorVie
           intends = rw (given, to) record {
             votes_as = is.intends.votes_as;
             signs = is.intends.signs;
+            refuses = is.intends.refuses;
             expires = ap (λ before. max before view) is.intends.expires;
+            chooses = is.intends.chooses;
+            poses = is.intends.poses;
+          };
+        }
+
+    pub refuses :
+        (s : Subject D) → intent ≡ record old.given.intent {
+          unsigned = with_refused old.given.intent.unsigned s;
+        }
+        → IsRunning x (refused s ∷ past) earlier new
+    refuses s to =
+        record {
+          voting = rw (voter) is.voting;
+          in_turn = is.in_turn;
+          blocks = rw (given) is.blocks;
+          calms = rw (given) is.calms;
+          finals = rw (given) is.finals;
+          votes = rw (voter, given) is.votes;
+          begins = rw (voter, given) is.begins;
+          casts = rw (voter, given) is.casts;
+          kept = rw (shelf) (kept_still x past (refused s ∷ past) refl old.shelf.certificates (λ c had. had) is.kept);
+          certificates = rw (shelf) is.certificates;
+          asks = rw (given) is.asks;
+          verifies = rw (given) is.verifies;
+          forwards = rw (given) is.forwards;
+          intends = rw (given, to) record {
+            votes_as = is.intends.votes_as;
+            signs = is.intends.signs;
+            refuses = ap (λ before. with_refused before s) is.intends.refuses;
+            expires = is.intends.expires;
             chooses = is.intends.chooses;
             poses = is.intends.poses;
           };
@@ -87,6 +120,7 @@ module _ {S D K G C L : Type 0} (x : NodeConfig D K G C) (old new : ValidatorVie
           intends = rw (given, to) record {
             votes_as = is.intends.votes_as;
             signs = refl;
+            refuses = is.intends.refuses;
             expires = is.intends.expires;
             chooses = is.intends.chooses;
             poses = is.intends.poses;
@@ -115,6 +149,7 @@ module _ {S D K G C L : Type 0} (x : NodeConfig D K G C) (old new : ValidatorVie
           intends = rw (given, to) record {
             votes_as = is.intends.votes_as;
             signs = is.intends.signs;
+            refuses = is.intends.refuses;
             expires = is.intends.expires;
             chooses = is.intends.chooses;
             poses = refl;
@@ -142,6 +177,7 @@ module _ {S D K G C L : Type 0} (x : NodeConfig D K G C) (old new : ValidatorVie
           intends = rw (given, to) record {
             votes_as = is.intends.votes_as;
             signs = is.intends.signs;
+            refuses = is.intends.refuses;
             expires = is.intends.expires;
             chooses = is.intends.chooses;
             poses = refl;

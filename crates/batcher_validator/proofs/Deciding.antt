@@ -2,7 +2,8 @@
 use Rattle.batcher_validator.proofs.Words.{◌≡◌, ◌≤◌, ◌<◌, ◌+◌, ◌∙◌, ℕ, Bool, true, false, ap, arith, eq-eqb, inl, inr, refl, subst, sym, cases_lt}
 use Rattle.batcher_validator.proofs.Words.{same_proposal, Proposal, Subject, Notarize, Nullify, Finalize, conduct_of, Conduct, Knows, NodeConfig, NodeView}
 use Rattle.batcher_validator.proofs.Words.{is_of, numbered, same_proposal-true, same_round-refl, ValidatorHistory, conduct_in, voter_history, window_by}
-use Rattle.batcher_validator.proofs.Words.{IsPreferred, CannotVote, IsNotToSign, ForEachRun, IsRunning, ValidatorView, IsContested, MayVote, knows_before}
+use Rattle.batcher_validator.proofs.Words.{IsPreferred, CannotSign, CannotVote, IsNotToSign, ForEachRun, IsRunning, ValidatorView, IsContested, MaySign}
+use Rattle.batcher_validator.proofs.Words.{MayVote, knows_before}
 use Rattle.batcher_validator.proofs.Words.{from_first, same_epoch, RestsOnLearned, BeginWithOneView, ForEachLife, IsFinalizable, Permits, Permission, Refused}
 use Rattle.batcher_validator.proofs.Words.{Rule}
 use Rattle.batcher_validator.proofs.Refusing.{refused_is_contested}
@@ -104,7 +105,7 @@ module _ {S D K G C L : Type 0} (config : NodeView S G D → NodeConfig D K G C)
         (q : Proposal D)
         → ForEachLife x old.voter (λ past earlier. old.voter.node.window.finalized ≤ view
         → (q.round ≡ numbered old.voter.node.epoch view) × Knows (conduct_of past) (Notarize q))
-        → CannotVote config old (Finalize q)
+        → CannotSign config old (Finalize q)
         → (p : Proposal D) → p.round.view.0 ≡ view → IsNotToSign config old (Finalize p)
     not_finalized q known cannot p here past earlier is wanted may = of_same_or (same_proposal same q p) refl
       where
@@ -117,11 +118,11 @@ module _ {S D K G C L : Type 0} (config : NodeView S G D → NodeConfig D K G C)
         of_same_or true e =
             let equal = same_proposal-true same identical q p e in
             subst (λ r. IsContested (conduct_in earlier past) (Finalize r)) equal
-            (cannot past earlier is (subst (λ r. MayVote x earlier past (Finalize r)) (sym equal) may))
+            (cannot past earlier is (subst (λ r. MaySign x earlier past (Finalize r)) (sym equal) may))
         of_same_or false e =
             record {
               other = q;
-              of_round = it.0 ∙ sym (of_view past earlier p here may);
+              of_round = it.0 ∙ sym (of_view past earlier p here may.0);
               differs = λ equal. wrong (sym (subst (λ r. same_proposal same r p ≡ true) (sym equal) (itself p)) ∙ e);
               known = knows_before (conduct_of (voter_history past)) earlier (Notarize q) it.1;
             }
@@ -135,7 +136,7 @@ module _ {S D K G C L : Type 0} (config : NodeView S G D → NodeConfig D K G C)
         arith,
         lt,
         here,
-        from_first x.epoch (window_by past) p.round may.within,
+        from_first x.epoch (window_by past) p.round may.0.within,
         ap (λ w. w.finalized) is.voting.represents.window_is,
       ))
 
@@ -149,7 +150,7 @@ module _ {S D K G C L : Type 0} (config : NodeView S G D → NodeConfig D K G C)
       each p.round.view.0
       (omega (
         arith,
-        is.voting.is_highest.none_above (Notarize p) may.rests
-            (same_epoch x.epoch (window_by past) p.round may.within ∙ epoch ∙ sym begins.of_epoch),
+        is.voting.is_highest.none_above (Notarize p) may.0.rests
+            (same_epoch x.epoch (window_by past) p.round may.0.within ∙ epoch ∙ sym begins.of_epoch),
       ))
       p refl past earlier is wanted may

@@ -98,7 +98,7 @@ module _ {S D K G C L : Type 0} (x : NodeConfig D K G C) (old new : ValidatorVie
             asks = rw (given) moved.asks;
             verifies = rw (given) moved.verifies;
             forwards = rw (given) moved.forwards;
-            intends = rw (given) (still_intent Before (gave (Final p) ∷ Before) old.given.intent refl refl refl refl refl
+            intends = rw (given) (still_intent Before (gave (Final p) ∷ Before) old.given.intent refl refl refl refl refl refl
                 moved.intends);
           }
         where

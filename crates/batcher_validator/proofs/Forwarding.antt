@@ -1,7 +1,7 @@
 -- What a notarization notarizes that was given to be sent is given to be forwarded, and once.
 use Rattle.batcher_validator.proofs.Words.{◌≡◌, ◌⊎◌, ◌∙◌, ◌∷◌, [], Option, Some, None, ap, inl, inr, refl, subst, sym, Kind, Finalization, Notarization}
 use Rattle.batcher_validator.proofs.Words.{Nullification, Round, Conduct, NodeConfig, HasForwarded, HasHanded, ValidatorHistory, again, forward_with, gave}
-use Rattle.batcher_validator.proofs.Words.{to_forward, AreGivenInTurn, Forward, SendCertificate}
+use Rattle.batcher_validator.proofs.Words.{to_forward, took, AreGivenInTurn, Forward, SendCertificate}
 
 no_both : {number : Round} (o : Option Round) → o ≡ None → o ≡ Some number → ⊥
 no_both o none some = absurd cc
@@ -34,6 +34,8 @@ all_forwarded x earlier (gave (Forward other) ∷ past) turn number handed =
       | inr due ↦ inl (inl (is_it (to_forward past) turn.0.0 due))
     ]
 all_forwarded x earlier (gave task ∷ past) turn number handed =
+    all_forwarded x earlier past turn.1 number handed
+all_forwarded x earlier (took c ∷ past) turn number handed =
     all_forwarded x earlier past turn.1 number handed
 all_forwarded x earlier (event ∷ past) turn number handed =
     all_forwarded x earlier past turn number handed
@@ -70,6 +72,8 @@ forwarded_handed x earlier (gave (Forward other) ∷ past) turn number (inr was)
     forwarded_handed x earlier past turn.1 number was
 forwarded_handed x earlier (gave task ∷ past) turn number was =
     forwarded_handed x earlier past turn.1 number was
+forwarded_handed x earlier (took c ∷ past) turn number was =
+    forwarded_handed x earlier past turn.1 number was
 forwarded_handed x earlier (event ∷ past) turn number was =
     forwarded_handed x earlier past turn number was
 
@@ -90,6 +94,8 @@ not_forwarded x earlier (gave (SendCertificate Finalization other) ∷ past) tur
     no_both (to_forward past) turn.0.1.1 due
 not_forwarded x earlier (gave (Forward other) ∷ past) turn number due was = absurd cc
 not_forwarded x earlier (gave task ∷ past) turn number due was =
+    not_forwarded x earlier past turn.1 number due was
+not_forwarded x earlier (took c ∷ past) turn number due was =
     not_forwarded x earlier past turn.1 number due was
 not_forwarded x earlier (event ∷ past) turn number due was =
     not_forwarded x earlier past turn number due was

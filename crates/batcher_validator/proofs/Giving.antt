@@ -8,14 +8,17 @@ use Rattle.batcher_validator.proofs.Words.{Participant, View, conduct_of, Conduc
 use Rattle.batcher_validator.proofs.Words.{view_history, IsAtRest, NodeConfig, cause_at, slot_at, ViewRepresents, is_to_be_tried, numbered, Cause, Slot}
 use Rattle.batcher_validator.proofs.Words.{AreKept, ForEachRun, GivenView, Gives, IsRunning, RunMeets, RunStays, ValidatorView, is_before_view, is_over_for}
 use Rattle.batcher_validator.proofs.Words.{HadVoted, HasAnnouncedFrom, HasAskedFrom, HasForwarded, HasHanded, HasRecast, HasSent, IsVerifying, ValidatorHistory}
-use Rattle.batcher_validator.proofs.Words.{again, answered, calls_in, conduct_in, forward_with, gave, to_forward, voter_history, window_by, Counts, HasEntered}
+use Rattle.batcher_validator.proofs.Words.{again, answered, nothing_unsigned, calls_in, conduct_in, forward_with, gave, to_forward, voter_history, window_by}
+use Rattle.batcher_validator.proofs.Words.{Counts, HasEntered}
 use Rattle.batcher_validator.proofs.Words.{IsNextIn, NobodyIsToBlock, NothingIsDue, NothingIsPosed, Block, Cast, Enter, Forward, SendCertificate, SendVote}
 use Rattle.batcher_validator.proofs.Words.{Verify, AreDistinct, AreFirst, HaveNoFinal, IsAt, kind_and_round, KnowsOf, BeginWithOneView, IsNextView}
+use Rattle.batcher_validator.proofs.Words.{NothingIsDueMeanwhile, HasVotedIn, IsGrounded, IsOpen, Leads, MayVote, Notarize, proposal_by}
 use Rattle.batcher_validator.proofs.Blocking.{blocks_one, not_blocked}
 use Rattle.batcher_validator.proofs.Beginning.{first_none}
 use Rattle.batcher_validator.proofs.Forwarding.{all_forwarded, not_forwarded}
 use Rattle.batcher_validator.proofs.Intending.{still_intent}
 use Rattle.batcher_validator.proofs.Keeping.{kept_still}
+use Rattle.batcher_validator.proofs.Learning.{all_learned}
 use Rattle.batcher_validator.proofs.Queueing.{before_differ, give_one, not_given}
 
 -- no votes are being verified
@@ -125,7 +128,7 @@ module _ {S D K G C L : Type 0} (x : NodeConfig D K G C) (old new : ValidatorVie
           asks = rw (given) is.asks;
           verifies = rw (given) is.verifies;
           forwards = rw (given) is.forwards;
-          intends = rw (given) (still_intent past (gave (SendVote vote) ∷ past) old.given.intent refl refl refl refl refl
+          intends = rw (given) (still_intent past (gave (SendVote vote) ∷ past) old.given.intent refl refl refl refl refl refl
               is.intends);
         }
       where
@@ -165,7 +168,7 @@ module _ {S D K G C L : Type 0} (x : NodeConfig D K G C) (old new : ValidatorVie
           asks = rw (given) is.asks;
           verifies = rw (given) is.verifies;
           forwards = rw (given) is.forwards;
-          intends = rw (given) (still_intent past (gave (Cast vote) ∷ past) old.given.intent refl refl refl refl refl
+          intends = rw (given) (still_intent past (gave (Cast vote) ∷ past) old.given.intent refl refl refl refl refl refl
               is.intends);
         }
       where
@@ -214,7 +217,7 @@ module _ {S D K G C L : Type 0} (x : NodeConfig D K G C) (old new : ValidatorVie
         asks = rw (given) is.asks;
         verifies = rw (given) is.verifies;
         forwards = rw (given) (ap (forward_with kind number) is.forwards);
-        intends = rw (given) (still_intent past (gave (SendCertificate kind number) ∷ past) old.given.intent refl refl refl refl refl
+        intends = rw (given) (still_intent past (gave (SendCertificate kind number) ∷ past) old.given.intent refl refl refl refl refl refl
             is.intends);
       }
     where
@@ -269,7 +272,7 @@ module _ {S D K G C L : Type 0} (x : NodeConfig D K G C) (old new : ValidatorVie
           asks = rw (given) is.asks;
           verifies = rw (given) is.verifies;
           forwards = rw (given) is.forwards;
-          intends = rw (given) (still_intent past (gave (Block who cause) ∷ past) old.given.intent refl refl refl refl refl
+          intends = rw (given) (still_intent past (gave (Block who cause) ∷ past) old.given.intent refl refl refl refl refl refl
               is.intends);
         }
 
@@ -311,7 +314,7 @@ module _ {S D K G C L : Type 0} (x : NodeConfig D K G C) (old new : ValidatorVie
           };
           verifies = rw (given) is.verifies;
           forwards = rw (given) is.forwards;
-          intends = rw (given) (still_intent past (gave (Enter view) ∷ past) old.given.intent refl refl refl refl refl
+          intends = rw (given) (still_intent past (gave (Enter view) ∷ past) old.given.intent refl refl refl refl refl refl
               is.intends);
         }
       where
@@ -348,7 +351,7 @@ module _ {S D K G C L : Type 0} (x : NodeConfig D K G C) (old new : ValidatorVie
           asks = rw (given) is.asks;
           verifies = rw (given) tt;
           forwards = rw (given) is.forwards;
-          intends = rw (given) (still_intent past (gave Verify ∷ past) old.given.intent refl refl refl refl refl
+          intends = rw (given) (still_intent past (gave Verify ∷ past) old.given.intent refl refl refl refl refl refl
               is.intends);
         }
 
@@ -375,7 +378,7 @@ module _ {S D K G C L : Type 0} (x : NodeConfig D K G C) (old new : ValidatorVie
           asks = rw (given) is.asks;
           verifies = rw (given) is.verifies;
           forwards = rw (given) refl;
-          intends = rw (given) (still_intent past (gave (Forward number) ∷ past) old.given.intent refl refl refl refl refl
+          intends = rw (given) (still_intent past (gave (Forward number) ∷ past) old.given.intent refl refl refl refl refl refl
               is.intends);
         }
 
@@ -399,7 +402,7 @@ module _ {S D K G C L : Type 0} (x : NodeConfig D K G C) (old new : ValidatorVie
           asks = rw (given) is.asks;
           verifies = rw (given) (λ no. no);
           forwards = rw (given) is.forwards;
-          intends = rw (given) (still_intent past (answered ∷ past) old.given.intent refl refl refl refl refl
+          intends = rw (given) (still_intent past (answered ∷ past) old.given.intent refl refl refl refl refl refl
               is.intends);
         }
 
@@ -407,6 +410,7 @@ module _ {S D K G C L : Type 0} (x : NodeConfig D K G C) (old new : ValidatorVie
       new.given ≡ record old.given {
         tally = record old.given.tally { sent = 0 };
         forwarding = None;
+        intent = record old.given.intent { signing = None; unsigned = nothing_unsigned };
       }
       → new.shelf.certificates ≡ old.shelf.certificates
       → new.shelf.handed ≡ 0 → RunMeets x old new again
@@ -425,8 +429,14 @@ module _ {S D K G C L : Type 0} (x : NodeConfig D K G C) (old new : ValidatorVie
         asks = rw (given) is.asks;
         verifies = rw (given) is.verifies;
         forwards = rw (given) refl;
-        intends = rw (given) (still_intent past (again ∷ past) old.given.intent refl refl refl refl refl
-            is.intends);
+        intends = rw (given) record {
+          votes_as = is.intends.votes_as;
+          signs = refl;
+          refuses = refl;
+          expires = is.intends.expires;
+          chooses = is.intends.chooses;
+          poses = is.intends.poses;
+        };
       }
 
 -- It is calm, where nothing is due.
@@ -630,6 +640,33 @@ module _ {S D K G C L : Type 0} (x : NodeConfig D K G C) (old : ValidatorView S 
       is.finals.were_asked p.round.view.0 some
       (omega (arith, ap (λ (r : Round). r.view.0) round, all it.item it.there other.0 other.1))
 
+  pub nothing_due_meanwhile :
+      old.voter.journal.is_open ≡ true
+      → (old.given.calm ≡ true) ⊎ ((i : ℕ) → i < length x.meaning.participants
+      → (cause_at old.voter.node.blocked i ≡ None) ⊎ (slice_get old.given.blocked i ≡ Some true))
+      → (old.given.tally.begun ≤ old.given.tally.recast)
+      ⊎ (slice_get old.voter.journal.contents.votes old.given.tally.recast ≡ None)
+      → (2 ^ 64 ≤ old.voter.knowledge.highest + 1)
+      ⊎ ((old.voter.knowledge.highest + 1 ≤ old.voter.node.window.current)
+      ⊎ (old.voter.knowledge.highest + 1 ≤ old.given.asked))
+      → (old.given.verifying ≡ true) ⊎ IsAtRest old.voter.node
+      → ((p : Proposal D) → IsOpen x past p.round.view.0 → Leads past p.round.view.0
+      → p.round.epoch ≡ x.epoch → (HasVotedIn x earlier past p.round → ⊥)
+      → (window_by past).finalized ≤ p.parent.0
+      → IsGrounded (conduct_of (voter_history past)) p → ⊥)
+      → ((p : Proposal D) → IsOpen x past p.round.view.0 → (Leads past p.round.view.0 → ⊥)
+      → proposal_by x past p.round.view.0 ≡ Some p → MayVote x earlier past (Notarize p) → ⊥)
+      → NothingIsDueMeanwhile x earlier past
+  nothing_due_meanwhile opened blocks casts enters verifies proposes judges =
+      record {
+        blocks = no_block_due blocks;
+        enters = no_enter_due enters;
+        casts = no_cast_due opened casts;
+        verifies = no_verify_due verifies;
+        proposes = proposes;
+        judges = judges;
+      }
+
   pub nothing_due :
       old.voter.journal.is_open ≡ true
       → (old.given.calm ≡ true) ⊎ ((i : ℕ) → i < length x.meaning.participants
@@ -649,6 +686,7 @@ module _ {S D K G C L : Type 0} (x : NodeConfig D K G C) (old : ValidatorView S 
       record {
         blocks = no_block_due blocks;
         finals = no_final_due finals;
+        learns = λ c counts. all_learned x earlier past is.in_turn c counts.had;
         votes = no_vote_due opened votes;
         casts = no_cast_due opened casts;
         certificates = no_certificate_due certificates;

@@ -1,9 +1,11 @@
 -- A validator goes on with what its voter did.
 use Rattle.batcher_validator.proofs.Words.{◌≡◌, ◌⊎◌, ◌++◌, ◌∙◌, ℕ, Bool, true, false, not, List, [], ◌∷◌, Option, Some, None, ap, inl, inr, refl, subst, sym}
 use Rattle.batcher_validator.proofs.Words.{take, MatchBool, unwrap_or, count_by, filter, option_or, certifies_itself, round_in, subject_of, Certificate}
-use Rattle.batcher_validator.proofs.Words.{Subject, Vote, Round, VoterEvent, VoterHistory, called, held_by, Conduct, is_below, is_over, JournalView, still_over}
+use Rattle.batcher_validator.proofs.Words.{Subject, Vote, Round, VoterEvent, VoterHistory, called, held_by, verified, Conduct, is_below, is_over, JournalView}
+use Rattle.batcher_validator.proofs.Words.{still_over}
 use Rattle.batcher_validator.proofs.Words.{NodeEvent, cause_by, cause_in, constructed, window_after, NodeConfig, NodeView, Window, AreFirst, AreFirstVotes}
-use Rattle.batcher_validator.proofs.Words.{AreKept, HasConstructed, IsRunning, RunMeets, RunStays, ValidatorView, tallied, is_before_view, is_over_for, Shelves}
+use Rattle.batcher_validator.proofs.Words.{AreKept, HasConstructed, IsRunning, RunMeets, RunStays, RunTakes, ValidatorView, tallied, is_before_view}
+use Rattle.batcher_validator.proofs.Words.{is_over_for, Shelves}
 use Rattle.batcher_validator.proofs.Words.{kind_and_round, HasAnnouncedFrom, HasAskedFrom, HasBlocked, HasHad, HasHanded, HasRecast, HadVoted, HasSent}
 use Rattle.batcher_validator.proofs.Words.{IsVerifying, ValidatorEvent, ValidatorHistory, calls_in, answered, did, only_did, to_forward, took, voter_history}
 use Rattle.batcher_validator.proofs.Words.{window_by, AreGivenInTurn, IsRaised, MayGain, IsVoting, VoterMeets, VoterStays}
@@ -402,39 +404,99 @@ module _ {S D K G C L : Type 0} (config : NodeView S G D → NodeConfig D K G C)
         (made.1 past earlier (began_with past earlier is)),
   )
 
--- A certificate that certifies is kept, though no call of the node took it in.
-pub takes_in :
-    {S D K G C L : Type 0} (x : NodeConfig D K G C) (old new : ValidatorView S G D L C)
-    (c : Certificate C D)
-    → x.epoch ≡ old.voter.node.epoch → certifies_itself x.meaning c ≡ true
-    → new.voter ≡ old.voter → new.given ≡ old.given → new.shelf.handed ≡ old.shelf.handed
-    → Shelves old.voter.node.epoch old.voter.node.window.finalized c old.shelf.certificates
-    new.shelf.certificates
-    → RunMeets x old new (took c)
-takes_in {D = D} {C = C} x old new c epoch certifies voter given handed shelves past earlier is =
-    record {
-      voting = rw (voter) is.voting;
-      in_turn = is.in_turn;
-      blocks = rw (given) is.blocks;
-      calms = rw (given) is.calms;
-      finals = rw (given) is.finals;
-      votes = rw (voter, given) is.votes;
-      begins = rw (voter, given) is.begins;
-      casts = rw (voter, given) is.casts;
-      kept = kept_with x past (took c ∷ past) refl c certifies old.shelf.certificates new.shelf.certificates
-          (λ d had. had) is.kept shelved;
-      certificates = rw (handed) (first_with x.epoch (window_by past).finalized c old.shelf.certificates
-          new.shelf.certificates (is_before_view (window_by past).finalized) (λ key. HasHanded past key)
-          old.shelf.handed shelved is.certificates);
-      asks = rw (given) is.asks;
-      verifies = rw (given) is.verifies;
-      forwards = rw (given) is.forwards;
-      intends = rw (given) (still_intent past (took c ∷ past) old.given.intent refl refl refl refl refl is.intends);
-    }
-  where
-    shelved : Shelves x.epoch
-        (window_by past).finalized c old.shelf.certificates new.shelf.certificates
-    shelved =
-        subst (λ e. Shelves e (window_by past).finalized c old.shelf.certificates new.shelf.certificates) (sym epoch)
-        (subst (λ (v : Window). Shelves old.voter.node.epoch v.finalized c old.shelf.certificates
-        new.shelf.certificates) is.voting.represents.window_is shelves)
+-- A certificate that certifies is learned and kept, though no call of the node took it in.
+module _ {S D K G C L : Type 0} (x : NodeConfig D K G C) (old mid new : ValidatorView S G D L C)
+    (c : Certificate C D) (certifies : certifies_itself x.meaning c ≡ true)
+    (epoch : x.epoch ≡ old.voter.node.epoch)
+    (learned : (past : VoterHistory D K G C) (earlier : Conduct D)
+    → IsVoting x past earlier old.voter → IsVoting x (verified c ∷ past) earlier mid.voter)
+    (node : mid.voter.node ≡ old.voter.node)
+    (contents : mid.voter.journal.contents ≡ old.voter.journal.contents)
+    (is_open : mid.voter.journal.is_open ≡ old.voter.journal.is_open)
+    (given : mid.given ≡ old.given) (shelf : mid.shelf ≡ old.shelf)
+    (voter : new.voter ≡ mid.voter) (given_still : new.given ≡ mid.given)
+    (handed : new.shelf.handed ≡ mid.shelf.handed)
+    (shelves : Shelves mid.voter.node.epoch mid.voter.node.window.finalized c mid.shelf.certificates
+    new.shelf.certificates) where
+  module _ (past : ValidatorHistory D K G C) (earlier : Conduct D)
+      (is : IsRunning x past earlier old) where
+    first_here : mid.voter.node.window.finalized ≡ (window_by past).finalized
+    first_here =
+        ap (λ n. n.window.finalized) node
+        ∙ ap (λ (w : Window). w.finalized) is.voting.represents.window_is
+
+    shelved_here : Shelves x.epoch (window_by past).finalized c old.shelf.certificates
+        new.shelf.certificates
+    shelved_here =
+        subst (λ e. Shelves e (window_by past).finalized c old.shelf.certificates new.shelf.certificates)
+        (ap (λ n. n.epoch) node ∙ sym epoch)
+        (subst (λ n. Shelves mid.voter.node.epoch n c old.shelf.certificates new.shelf.certificates) first_here
+        (subst (λ cs. Shelves mid.voter.node.epoch mid.voter.node.window.finalized c cs new.shelf.certificates)
+        (ap (λ s. s.certificates) shelf) shelves))
+
+    abbrev Verified : ValidatorHistory D K G C
+    Verified = did (verified c) ∷ past
+
+    abbrev Calm : ValidatorView S G D L C
+    Calm = record { voter = mid.voter; given = old.given; shelf = new.shelf }
+
+    learned_here : IsRunning x Verified earlier Calm
+    learned_here =
+        goes_on x old Calm (verified c ∷ []) past earlier (λ n. n) is
+        (learned (voter_history past) earlier is.voting)
+        (recounts_still x old Calm contents is_open old.given.calm refl)
+        {calm = old.given.calm} (λ yes. (yes, λ i. refl)) refl
+        (kept_with x past Verified refl c certifies old.shelf.certificates new.shelf.certificates
+        had is.kept shelved_here)
+        (rw (handed, shelf) (first_with x.epoch (window_by past).finalized c
+        old.shelf.certificates new.shelf.certificates (is_before_view (window_by past).finalized)
+        (λ key. HasHanded past key) old.shelf.handed shelved_here is.certificates))
+      where
+        had : (d : Certificate C D) → HasHad Verified d → (c ≡ d) ⊎ HasHad past d
+        had d (inl other) = inl (ap (λ o. unwrap_or o c) other)
+        had d (inr before) = inr before
+
+    kept_here : IsRunning x (took c ∷ Verified) earlier Calm
+    kept_here =
+        record {
+          voting = learned_here.voting;
+          in_turn = (inl refl, learned_here.in_turn);
+          blocks = learned_here.blocks;
+          calms = learned_here.calms;
+          finals = learned_here.finals;
+          votes = learned_here.votes;
+          begins = learned_here.begins;
+          casts = learned_here.casts;
+          kept = kept_still x Verified (took c ∷ Verified) refl new.shelf.certificates had
+              learned_here.kept;
+          certificates = learned_here.certificates;
+          asks = learned_here.asks;
+          verifies = learned_here.verifies;
+          forwards = learned_here.forwards;
+          intends = still_intent Verified (took c ∷ Verified) old.given.intent refl refl refl refl refl refl
+              learned_here.intends;
+        }
+      where
+        had : (d : Certificate C D) → HasHad (took c ∷ Verified) d → HasHad Verified d
+        had d (inl is_it) = inl (ap Some is_it)
+        had d (inr before) = before
+
+  pub takes_in : RunTakes x c old new
+  takes_in past earlier is =
+      subst (λ v. IsRunning x (took c ∷ did (verified c) ∷ past) earlier
+      (record { voter = v; given = new.given; shelf = new.shelf })) (sym voter)
+      (subst (λ it. IsRunning x (took c ∷ did (verified c) ∷ past) earlier
+      (record { voter = mid.voter; given = it; shelf = new.shelf }))
+      (sym (given_still ∙ given)) (kept_here past earlier is))
+
+-- the same where room was made before
+pub takes_roomy :
+    {S D K G C L : Type 0} (config : NodeView S G D → NodeConfig D K G C)
+    (old roomy new : ValidatorView S G D L C) (c : Certificate C D)
+    → roomy.voter ≡ old.voter → roomy.given ≡ record old.given { calm = false }
+    → roomy.shelf.certificates ≡ old.shelf.certificates
+    → roomy.shelf.handed ≡ old.shelf.handed
+    → RunTakes (config roomy.voter.node) c roomy new → RunTakes (config old.voter.node) c old new
+takes_roomy config old roomy new c voter given certificates handed takes past earlier is =
+    subst (λ v. IsRunning (config v.node) (took c ∷ did (verified c) ∷ past) earlier new) voter
+    (takes past earlier (began_with config old roomy new voter given certificates handed past earlier is))

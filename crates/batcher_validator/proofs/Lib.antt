@@ -10,6 +10,7 @@ pub mod Signing
 pub mod Blocking
 pub mod Beginning
 pub mod Forwarding
+pub mod Learning
 pub mod Giving
 pub mod Finalizing
 pub mod Certifying

@@ -1,8 +1,8 @@
 -- A validator takes in what its disk has.
 use Rattle.batcher_validator.proofs.Words.{◌≡◌, ◌⊎◌, ◌++◌, ◌+◌, ℕ, zero, suc, List, [], ◌∷◌, Ok, Option, Some, ap, arith, inl, inr, refl, subst, sym, take}
 use Rattle.batcher_validator.proofs.Words.{Contains, IfSome, slice_get, Contains-append_left, Contains-append_right, Certificate, Format, whole, versioned}
-use Rattle.batcher_validator.proofs.Words.{Certified, NodeConfig, ValidatorHistory, only_took, took, IsAtPlace, Recalls, AreBytesOf, IsRunning, RunMeets}
-use Rattle.batcher_validator.proofs.Words.{ValidatorView}
+use Rattle.batcher_validator.proofs.Words.{Certified, NodeConfig, ValidatorHistory, did, only_took, took, verified, IsAtPlace, Recalls, AreBytesOf, IsRunning}
+use Rattle.batcher_validator.proofs.Words.{RunTakes, ValidatorView}
 
 -- what bytes decode to is one
 pub same_decoded :
@@ -62,7 +62,8 @@ module _ {D K G C : Type 0} where
       (later first : List (Certificate C D)) (past : ValidatorHistory D K G C)
       → only_took (later ++ first) ++ past ≡ only_took later ++ (only_took first ++ past)
   took_both [] first past = refl
-  took_both (c ∷ later) first past = ap (λ rest. took c ∷ rest) (took_both later first past)
+  took_both (c ∷ later) first past =
+      ap (λ rest. took c ∷ did (verified c) ∷ rest) (took_both later first past)
 
 module _ {S D K G C L : Type 0} (x : NodeConfig D K G C) where
   pub recalls_none :
@@ -77,7 +78,7 @@ module _ {S D K G C L : Type 0} (x : NodeConfig D K G C) where
 
   pub recalls_one :
       (IsThere : Certificate C D → Type 0) (old new : ValidatorView S G D L C) (c : Certificate C D)
-      → RunMeets x old new (took c) → ((d : Certificate C D) → IsThere d → c ≡ d)
+      → RunTakes x c old new → ((d : Certificate C D) → IsThere d → c ≡ d)
       → Recalls x IsThere old new
   recalls_one IsThere old new c meets same =
       record {

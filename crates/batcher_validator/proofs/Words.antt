@@ -3,7 +3,7 @@ pub use Rattle.std.proofs.Common.{◌∙◌, ap, arith, refl, subst, sym, inl, i
 pub use Rattle.std.proofs.Math.Seq.{take-append_seam, take-suc}
 pub use Rattle.std.proofs.lemmas.Bool.{cases_lt, le-ltb, lt-ltb, ltb-true, le-leb, leb-true, ltb-false, false≢true}
 pub use Rattle.std.proofs.lemmas.Fn.{filter_same}
-pub use Rattle.std.proofs.lemmas.List.{take_all, length-append, take-append-drop, take-append-le, take_more, map-append}
+pub use Rattle.std.proofs.lemmas.List.{take_all, length-append, take-append-drop, take-append-le}
 pub use Rattle.std.proofs.lemmas.List.Elements.{recursion_from_All, All-contains, Contains-append_cases, Contains-append_left, Contains-append_right}
 pub use Rattle.std.proofs.lemmas.List.Elements.{filter_passes, All-contains_itself, All-filter}
 pub use Rattle.std.proofs.lemmas.List.Folds.{Any-from_list_any, list_any_at}
@@ -13,7 +13,7 @@ pub use Rattle.std.specs.List.{slice_get, count_by, filter, list_any}
 pub use Rattle.std.specs.Option.{option_map, option_or}
 pub use Rattle.std.specs.Prelude.{◌≡◌, ◌++◌, ℕ, zero, suc, Bool, true, false, List, [], ◌∷◌, Some, None, length, replicate, take, Contains, unwrap_or, ◌⊎◌, ◌<◌}
 pub use Rattle.std.specs.Prelude.{Option, cond, set, is_some, ◌≤◌, All, IfSome, option_and_then, max, ◌+◌, not, ◌≢◌, ◌^◌, MatchBool, MatchOption, ◌&&◌, drop}
-pub use Rattle.std.specs.Prelude.{Ok, map, nat_eq}
+pub use Rattle.std.specs.Prelude.{Ok}
 pub use Rattle.std.specs.declared.cmp.Ordering.{Ordering}
 pub use Rattle.batcher.specs.Config.{Config}
 pub use Rattle.batcher.specs.Meaning.{Meaning}
@@ -46,8 +46,8 @@ pub use Rattle.batcher.specs.positions.View.{View}
 pub use Rattle.batcher.specs.verifier.Batch.{Batch}
 pub use Rattle.batcher.specs.votes.Outcome.{Outcome}
 pub use Rattle.batcher_agreement.proofs.Voting.{voted_final_is_notarized}
-pub use Rattle.batcher_agreement.specs.Lives.{node_history, called, held_by, conduct_of, verified, VoterEvent, VoterHistory, written}
-pub use Rattle.batcher_agreement.specs.Policy.{Conduct, HasVoted, Knows, IsGrounded, IsCleared, KeepsPolicy}
+pub use Rattle.batcher_agreement.specs.Lives.{node_history, called, held_by, conduct_of, verified, VoterEvent, VoterHistory, written, acts_of, learned_by}
+pub use Rattle.batcher_agreement.specs.Policy.{Conduct, HasVoted, Knows, IsGrounded, IsCleared, KeepsPolicy, learned, voted}
 pub use Rattle.batcher_bytes.specs.Format.{Format, whole}
 pub use Rattle.batcher_bytes.specs.Messages.{versioned, certificate_format}
 pub use Rattle.batcher_bytes.specs.declared.signature.Signature.{Signature}
@@ -77,21 +77,25 @@ pub use Rattle.batcher_node.specs.declared.answers.Verdict.TheVariants.{Forged, 
 pub use Rattle.batcher_node.specs.declared.slot.Slot.{Slot}
 pub use Rattle.batcher_node.specs.declared.window.Window.{Window}
 pub use Rattle.batcher_types.proofs.VoteLemmas.{same_proposal-true, same_round-refl, same_round-true, same_subject-refl}
-pub use Rattle.batcher_validator.specs.Disks.{disk_of}
+pub use Rattle.batcher_bytes.specs.Copies.{CopyView}
+pub use Rattle.batcher_validator.specs.Disks.{log_of}
 pub use Rattle.batcher_validator.specs.Ending.{IsPreferred, GivesOnAndOn, HasLessLeft, WaitsForVote, finals_left, is_final_after, others_left}
 pub use Rattle.batcher_validator.specs.Histories.{began, only_took, HasBlocked, ValidatorHistory, gave, chose, expired, later_of, conduct_in, voter_history}
 pub use Rattle.batcher_validator.specs.Histories.{window_by, calls_in, HasHad, HasHanded, did, HasForwarded, again, forward_with, to_forward, HadVoted}
 pub use Rattle.batcher_validator.specs.Histories.{HasAnnouncedFrom, HasAskedFrom, HasRecast, HasSent, IsVerifying, answered, ValidatorEvent, only_did, took}
-pub use Rattle.batcher_validator.specs.Histories.{chosen_in, expired_in, last_to_sign, me_in, posed_in}
-pub use Rattle.batcher_validator.specs.Posing.{CannotVote, IsNotToSign, Grounds, HasCast, HasNotCast, IsNotToPropose}
+pub use Rattle.batcher_validator.specs.Histories.{chosen_in, expired_in, last_to_sign, me_in, posed_in, refused, unsigned_in}
+pub use Rattle.batcher_validator.specs.Posing.{CannotSign, CannotVote, IsNotToSign, Grounds, HasCast, HasNotCast, IsNotToPropose}
 pub use Rattle.batcher_validator.specs.Queues.{AreFirst, AreDistinct, HasKey}
 pub use Rattle.batcher_validator.specs.Recalling.{Recalls, IsAtPlace}
 pub use Rattle.batcher_validator.specs.Running.{HasBegun, HasCertificate, IsRunning, ValidatorView, is_over_for, AreBlocked, blocks_sender, IntentView}
 pub use Rattle.batcher_validator.specs.Running.{ForEachRun, Gives, GivenView, RunStays, WhyNotFinal, tally_from, left_of, AreKept, RunMeets, is_before_view}
-pub use Rattle.batcher_validator.specs.Running.{AreFirstVotes, HasConstructed, tallied, IsIntent, AreBytesOf, RunCasts, RunMayWrite, RunWrites}
+pub use Rattle.batcher_validator.specs.Running.{AreFirstVotes, HasConstructed, tallied, IsIntent, AreBytesOf, RunCasts, RunMayWrite, RunWrites, RunTakes}
 pub use Rattle.batcher_validator.specs.Shelves.{IsFinalAt, is_from, HaveNoFinal, IsAt, kind_and_round, Shelves, IsLookedAt, ShelvesOne}
-pub use Rattle.batcher_validator.specs.Tasks.{MayGive, IsContested, MayVote, AreGivenInTurn, Counts, HasEntered, IsNextIn, NobodyIsToBlock, NothingIsDue}
-pub use Rattle.batcher_validator.specs.Tasks.{NothingIsPosed, IsOpen}
+pub use Rattle.batcher_validator.specs.Tasks.{MayGive, IsContested, MaySign, MayVote, AreGivenInTurn, Counts, HasEntered, IsNextIn, NobodyIsToBlock}
+pub use Rattle.batcher_validator.specs.Tasks.{NothingIsDue, NothingIsDueMeanwhile}
+pub use Rattle.batcher_validator.specs.Tasks.{NothingIsPosed, IsOpen, HasVotedIn}
+pub use Rattle.batcher_validator.specs.Histories.{Leads, proposal_by}
+pub use Rattle.batcher_validator.specs.Unsigned.{nothing_unsigned, with_refused}
 pub use Rattle.batcher_validator.specs.declared.tally.Tally.{Tally}
 pub use Rattle.batcher_validator.specs.declared.task.Task.{Task}
 pub use Rattle.batcher_validator.specs.declared.task.Task.TheVariants.{Block, Judge, Propose, Sign, Final, SendVote, Forward, SendCertificate, Cast, Enter}
@@ -102,7 +106,7 @@ pub use Rattle.batcher_voter.specs.Journals.{IsRaised, MayGain}
 pub use Rattle.batcher_voter.specs.Knowledge.{KnowsOf}
 pub use Rattle.batcher_voter.specs.Refusals.{RestsOnLearned, IsAnotherNotarized, IsRefused}
 pub use Rattle.batcher_voter.specs.Remembering.{Remembers}
-pub use Rattle.batcher_voter.specs.Reopening.{IsFinalView, IsTakenIn}
+pub use Rattle.batcher_voter.specs.Reopening.{IsFinalView, IsTakenIn, StaysKnown}
 pub use Rattle.batcher_voter.specs.Voting.{HasStarted, was_recorded, BeginWithOneView, ForEachLife, IsFinalizable, Permits, IsVoting, VoterStays, IsNextView}
 pub use Rattle.batcher_voter.specs.Voting.{VoterMeets, Casts, IsWritten, MayWrite, WritesAndCalls}
 pub use Rattle.batcher_voter.specs.declared.answers.FinalizeFault.TheVariants.{NotOfEpoch, Passed}

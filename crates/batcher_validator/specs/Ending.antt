@@ -10,7 +10,7 @@ use Rattle.batcher_agreement.specs.Policy.{Conduct}
 use Rattle.batcher_node.specs.Nodes.{NodeConfig}
 use Rattle.batcher_validator.specs.Histories.{ValidatorHistory, gave, last_to_sign}
 use Rattle.batcher_validator.specs.Running.{ForEachRun, Gives, IsRunning, ValidatorView}
-use Rattle.batcher_validator.specs.Tasks.{MayVote}
+use Rattle.batcher_validator.specs.Tasks.{MaySign}
 use Rattle.batcher_validator.specs.declared.task.Task.{Task}
 use Rattle.batcher_validator.specs.declared.task.Task.TheVariants.{Final, Sign}
 use Rattle.batcher_voter.specs.Voting.{IsFinalizable, VoterView}
@@ -47,13 +47,13 @@ module _ {S G D L C : Type 0} (validator : ValidatorView S G D L C) where
       + cond validator.given.verifying 0 1))))))
 
 module _ {S D K G C L : Type 0} (x : NodeConfig D K G C) where
-  -- What was given to be signed, last of all, may still be voted for. Meanwhile nothing else is
+  -- What was given to be signed, last of all, may still be signed. Meanwhile nothing else is
   -- given to be signed.
   pub record WaitsForVote (past : ValidatorHistory D K G C) (earlier : Conduct D)
       (validator : ValidatorView S G D L C) : Type 0 where
     pub subject : Subject D
     pub was_last : last_to_sign past ≡ Some subject
-    pub may_vote : MayVote x earlier past subject
+    pub may_sign : MaySign x earlier past subject
     pub is_preferred : IsPreferred x.same_digest validator.voter subject
 
   -- With each task less is left. Where a proposal is given as final, more else may be left.

@@ -11,22 +11,24 @@ use Rattle.batcher.specs.messages.Subject.{Subject}
 use Rattle.batcher.specs.positions.Participant.{Participant}
 use Rattle.batcher.specs.positions.Round.{Round}
 use Rattle.batcher_agreement.specs.Lives.{VoterEvent, VoterHistory, conduct_of, held_by}
-use Rattle.batcher_agreement.specs.Lives.{node_history}
+use Rattle.batcher_agreement.specs.Lives.{node_history, verified}
 use Rattle.batcher_agreement.specs.Policy.{Conduct, HasVoted}
 use Rattle.batcher_node.specs.Events.{NodeHistory, view_history, window_in}
 use Rattle.batcher_node.specs.Nodes.{NodeConfig}
 use Rattle.batcher_node.specs.Represents.{config_of}
 use Rattle.batcher_node.specs.declared.window.Window.{Window}
+use Rattle.batcher_validator.specs.Unsigned.{nothing_unsigned, with_refused}
 use Rattle.batcher_validator.specs.declared.task.Task.{Task}
 use Rattle.batcher_validator.specs.declared.task.Task.TheVariants.{Block, Cast, Enter, Final}
 use Rattle.batcher_validator.specs.declared.task.Task.TheVariants.{Forward, Judge, Propose}
 use Rattle.batcher_validator.specs.declared.task.Task.TheVariants.{SendCertificate, SendVote, Sign}
 use Rattle.batcher_validator.specs.declared.task.Task.TheVariants.{Verify}
+use Rattle.batcher_validator.specs.declared.unsigned.Unsigned.{Unsigned}
 
 pub data ValidatorEvent (D K G C : Type 0) : Type 0 where
   -- it was made of a voter, which votes as this participant, and did this before
   began : Participant → VoterHistory D K G C → ValidatorEvent D K G C
-  -- it took in a certificate that it verified itself, from its disk or from who is ahead
+  -- it keeps a certificate that it verified itself, from its disk or from who is ahead
   took : Certificate C D → ValidatorEvent D K G C
   -- its voter did this
   did : VoterEvent D K G C → ValidatorEvent D K G C
@@ -38,6 +40,8 @@ pub data ValidatorEvent (D K G C : Type 0) : Type 0 where
   chose : Proposal D → ValidatorEvent D K G C
   -- the time of this view is over
   expired : ℕ → ValidatorEvent D K G C
+  -- the signature of this, which was to be signed, isn't good
+  refused : Subject D → ValidatorEvent D K G C
   -- what was sent may be lost, so it is to be sent again
   again : ValidatorEvent D K G C
 
@@ -90,14 +94,15 @@ module _ {D K G C : Type 0} where
   only_did [] = []
   only_did (event ∷ past) = did event ∷ only_did past
 
-  -- what it took in
+  -- what it took in: its voter verified and learned it, and it is kept
   abbrev pub only_took : List (Certificate C D) → ValidatorHistory D K G C
   only_took [] = []
-  only_took (c ∷ held) = took c ∷ only_took held
+  only_took (c ∷ held) = took c ∷ did (verified c) ∷ only_took held
 
   -- it has had a certificate since it began
   abbrev pub HasHad : ValidatorHistory D K G C → Certificate C D → Type 0
   HasHad [] c = ⊥
+  HasHad (began me before ∷ past) c = ⊥
   HasHad (took held ∷ past) c = (held ≡ c) ⊎ HasHad past c
   HasHad (did event ∷ past) c = (held_by event ≡ Some c) ⊎ HasHad past c
   HasHad (event ∷ past) c = HasHad past c
@@ -171,11 +176,19 @@ module _ {D K G C : Type 0} where
   me_in (began me before ∷ past) = Some me
   me_in (event ∷ past) = me_in past
 
-  -- what it gave to be signed, last of all
+  -- what it gave to be signed, last of all, since all was to be sent again
   abbrev pub last_to_sign : ValidatorHistory D K G C → Option (Subject D)
   last_to_sign [] = None
+  last_to_sign (again ∷ past) = None
   last_to_sign (gave (Sign s) ∷ past) = Some s
   last_to_sign (event ∷ past) = last_to_sign past
+
+  -- which signatures were refused, since all was to be sent again
+  abbrev pub unsigned_in : ValidatorHistory D K G C → Unsigned
+  unsigned_in [] = nothing_unsigned
+  unsigned_in (again ∷ past) = nothing_unsigned
+  unsigned_in (refused s ∷ past) = with_refused (unsigned_in past) s
+  unsigned_in (event ∷ past) = unsigned_in past
 
   -- the highest view whose time is over, or 0
   abbrev pub expired_in : ValidatorHistory D K G C → ℕ

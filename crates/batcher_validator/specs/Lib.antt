@@ -1,3 +1,4 @@
+pub mod Unsigned
 pub mod Histories
 pub mod Tasks
 pub mod Queues

@@ -15,7 +15,7 @@ use Rattle.batcher_validator.specs.Histories.{Leads, ValidatorHistory, conduct_i
 use Rattle.batcher_validator.specs.Histories.{proposal_by, voter_history, window_by}
 use Rattle.batcher_validator.specs.Running.{ForEachRun, ValidatorView}
 use Rattle.batcher_validator.specs.Tasks.{SignsNoMore, HasVotedIn, IsContested, IsOpen, IsSigning}
-use Rattle.batcher_validator.specs.Tasks.{IsWanted, MayVote}
+use Rattle.batcher_validator.specs.Tasks.{IsWanted, MaySign, MayVote}
 
 module _ {S D G C L : Type 0} (validator : ValidatorView S G D L C) where
   -- the next view was entered, or given to be
@@ -55,14 +55,22 @@ module _ {S D K G C L : Type 0} (config : NodeView S G D → NodeConfig D K G C)
   CannotVote s = Always (λ past earlier.
       MayVote here earlier past s → IsContested (conduct_in earlier past) s)
 
+  -- it may be signed, or it may not
+  abbrev pub CanSign : Subject D → Type 0
+  CanSign s = Always (λ past earlier. MaySign here earlier past s)
+
+  abbrev pub CannotSign : Subject D → Type 0
+  CannotSign s = Always (λ past earlier.
+      MaySign here earlier past s → IsContested (conduct_in earlier past) s)
+
   -- and that is wanted
   abbrev pub IsToSign : Subject D → Type 0
   IsToSign s = Always (λ past earlier.
-      IsWanted here earlier past s × MayVote here earlier past s)
+      IsWanted here earlier past s × MaySign here earlier past s)
 
   abbrev pub IsNotToSign : Subject D → Type 0
   IsNotToSign s = Always (λ past earlier.
-      IsWanted here earlier past s → MayVote here earlier past s
+      IsWanted here earlier past s → MaySign here earlier past s
       → IsContested (conduct_in earlier past) s)
 
   -- what was given to be signed is being signed, or it is no more

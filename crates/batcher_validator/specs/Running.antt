@@ -39,13 +39,15 @@ use Rattle.batcher_validator.specs.Histories.{HasHanded, HasRecast, HasSent, IsV
 use Rattle.batcher_validator.specs.Histories.{ValidatorEvent, ValidatorHistory, answered, began}
 use Rattle.batcher_validator.specs.Histories.{chosen_in, conduct_in, did, expired_in, gave}
 use Rattle.batcher_validator.specs.Histories.{last_to_sign, me_in, only_did, only_took, posed_in}
-use Rattle.batcher_validator.specs.Histories.{to_forward, voter_history, window_by}
+use Rattle.batcher_validator.specs.Histories.{to_forward, took, unsigned_in, voter_history}
+use Rattle.batcher_validator.specs.Histories.{window_by}
 use Rattle.batcher_validator.specs.Tasks.{AreGivenInTurn, Counts, NobodyIsToBlock}
 use Rattle.batcher_validator.specs.declared.tally.Tally.{Tally}
 use Rattle.batcher_validator.specs.declared.task.Task.{Task}
 use Rattle.batcher_validator.specs.declared.task.Task.TheVariants.{Cast as CastAgain, Final}
 use Rattle.batcher_validator.specs.declared.task.Task.TheVariants.{SendCertificate, SendVote}
 use Rattle.batcher_validator.specs.declared.task.Task.TheVariants.{Verify}
+use Rattle.batcher_validator.specs.declared.unsigned.Unsigned.{Unsigned}
 use Rattle.batcher_voter.specs.Voting.{IsVoting, LeavesWhatWasDone, VoterView}
 use Rattle.batcher_voter.specs.declared.answers.FinalizeFault.{FinalizeFault}
 use Rattle.batcher_voter.specs.declared.answers.FinalizeFault.TheVariants.{Forged as NotFinalForged}
@@ -55,8 +57,10 @@ use Rattle.batcher_voter.specs.declared.answers.FinalizeFault.TheVariants.{NotOf
 pub record IntentView (D : Type 0) : Type 0 where
   -- as whom it votes
   pub me : Participant
-  -- what was given to be signed, last of all
+  -- what was given to be signed, last of all, since all was to be sent again
   pub signing : Option (Subject D)
+  -- which signatures were refused since then
+  pub unsigned : Unsigned
   -- the highest view whose time is over, or 0
   pub expired : ℕ
   -- the proposal of the highest view that is its own, or valid
@@ -118,6 +122,7 @@ pub record IsIntent {D K G C : Type 0} (past : ValidatorHistory D K G C) (intent
     : Type 0 where
   pub votes_as : me_in past ≡ Some intent.me
   pub signs : last_to_sign past ≡ intent.signing
+  pub refuses : unsigned_in past ≡ intent.unsigned
   pub expires : expired_in past ≡ intent.expired
   pub chooses : chosen_in past ≡ intent.chosen
   pub poses : posed_in past ≡ intent.posed
@@ -248,6 +253,11 @@ module _ {S D K G C L : Type 0} (x : NodeConfig D K G C) where
       → Type 0
   RunMeets old new event =
       ForEachRun old (λ past earlier. IsRunning (event ∷ past) earlier new)
+
+  -- Its voter verifies and learns a certificate, and it is kept.
+  abbrev pub RunTakes : Certificate C D → ValidatorView S G D L C → ValidatorView S G D L C → Type 0
+  RunTakes c old new =
+      ForEachRun old (λ past earlier. IsRunning (took c ∷ did (verified c) ∷ past) earlier new)
 
   -- nothing happened that counts
   abbrev pub RunStays : ValidatorView S G D L C → ValidatorView S G D L C → Type 0

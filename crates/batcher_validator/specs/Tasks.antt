@@ -23,9 +23,10 @@ use Rattle.batcher_validator.specs.Histories.{HadVoted, HasAnnouncedFrom, HasAsk
 use Rattle.batcher_validator.specs.Histories.{HasForwarded, HasHad, HasHanded, HasRecast, HasSent}
 use Rattle.batcher_validator.specs.Histories.{IsVerifying, Leads, ValidatorHistory, calls_in}
 use Rattle.batcher_validator.specs.Histories.{chosen_in, conduct_in, expired_in, gave, last_to_sign}
-use Rattle.batcher_validator.specs.Histories.{posed_in, proposal_by, to_forward, voter_history}
-use Rattle.batcher_validator.specs.Histories.{window_by}
+use Rattle.batcher_validator.specs.Histories.{posed_in, proposal_by, to_forward, took}
+use Rattle.batcher_validator.specs.Histories.{unsigned_in, voter_history, window_by}
 use Rattle.batcher_validator.specs.Shelves.{IsLookedAt, kind_and_round}
+use Rattle.batcher_validator.specs.Unsigned.{is_unsigned}
 use Rattle.batcher_validator.specs.declared.task.Task.{Task}
 use Rattle.batcher_validator.specs.declared.task.Task.TheVariants.{Block, Cast, Enter, Final}
 use Rattle.batcher_validator.specs.declared.task.Task.TheVariants.{Forward, Judge, Propose}
@@ -36,6 +37,15 @@ use Rattle.batcher_validator.specs.declared.task.Task.TheVariants.{Verify}
 abbrev pub IsContested : {D : Type 0} → Conduct D → Subject D → Type 0
 IsContested past (Finalize p) = IsAnotherNotarized past p
 IsContested past s = ⊥
+
+-- A task that is given while a write is under way: nothing is sent by it, final or signed.
+abbrev pub IsGivenMeanwhile : {G D : Type 0} → Task G D → Type 0
+IsGivenMeanwhile (Final p) = ⊥
+IsGivenMeanwhile (SendVote vote) = ⊥
+IsGivenMeanwhile (SendCertificate kind number) = ⊥
+IsGivenMeanwhile (Forward number) = ⊥
+IsGivenMeanwhile (Sign s) = ⊥
+IsGivenMeanwhile task = ⊤
 
 module _ {D K G C : Type 0} (x : NodeConfig D K G C) where
   -- A view is the next one: it is behind each of which a certificate is known, and behind one of
@@ -97,6 +107,11 @@ module _ {D K G C : Type 0} (x : NodeConfig D K G C) where
       pub rests : RestsOnLearned (conduct_of (voter_history past)) (window_by past).finalized s
       pub within : is_of x.epoch (window_by past) (round_in s) ≡ true
 
+    -- It may be given to be signed: it may be voted for, and since all was to be sent again no
+    -- signature was refused of its kind, of its view or a later one.
+    abbrev pub MaySign : ValidatorHistory D K G C → Subject D → Type 0
+    MaySign past s = MayVote past s × (is_unsigned (unsigned_in past) s ≡ false)
+
     -- What it votes for, where it may: a proposal that is its own, or valid, the end of a view
     -- whose time is over, and the finalization of whatever is notarized.
     abbrev pub IsWanted : ValidatorHistory D K G C → Subject D → Type 0
@@ -105,16 +120,16 @@ module _ {D K G C : Type 0} (x : NodeConfig D K G C) where
         (0 < expired_in past) × (number ≡ numbered x.epoch (expired_in past))
     IsWanted past (Finalize p) = ⊤
 
-    -- What it gave to be signed, last of all, may still be voted for.
+    -- What it gave to be signed, last of all, may still be voted for, and wasn't refused.
     pub record IsSigning (past : ValidatorHistory D K G C) : Type 0 where
       pub subject : Subject D
       pub was_last : last_to_sign past ≡ Some subject
-      pub may_vote : MayVote past subject
+      pub may_sign : MaySign past subject
 
     -- It may no more, or it is contested.
     abbrev pub SignsNoMore : ValidatorHistory D K G C → Type 0
     SignsNoMore past =
-        (s : Subject D) → last_to_sign past ≡ Some s → MayVote past s
+        (s : Subject D) → last_to_sign past ≡ Some s → MaySign past s
         → IsContested (conduct_in earlier past) s
 
     -- it has voted in a round
@@ -153,8 +168,8 @@ module _ {D K G C : Type 0} (x : NodeConfig D K G C) where
         × (HasAskedFrom past view.0 → ⊥))
     -- no votes are being verified,
     MayGive past Verify = IsVerifying past → ⊥
-    -- a vote is wanted and may be cast, and no other is being signed,
-    MayGive past (Sign s) = IsWanted past s × (MayVote past s × SignsNoMore past)
+    -- a vote is wanted and may be cast, it wasn't refused, and no other is being signed,
+    MayGive past (Sign s) = IsWanted past s × (MaySign past s × SignsNoMore past)
     -- each proposal on the parent is grounded, in a view that the validator leads,
     MayGive past (Propose view parent) =
         IsOpen past view.0 × (Leads past view.0
@@ -166,17 +181,19 @@ module _ {D K G C : Type 0} (x : NodeConfig D K G C) where
         IsOpen past p.round.view.0 × ((proposal_by x past p.round.view.0 ≡ Some p)
         × MayVote past (Notarize p))
 
-    -- Each task might be given when it was.
+    -- Each task might be given when it was, and what is taken in was learned before.
     abbrev pub AreGivenInTurn : ValidatorHistory D K G C → Type 0
     AreGivenInTurn [] = ⊤
     AreGivenInTurn (gave task ∷ past) = MayGive past task × AreGivenInTurn past
+    AreGivenInTurn (took c ∷ past) =
+        Knows (conduct_of (voter_history past)) (subject_certified c) × AreGivenInTurn past
     AreGivenInTurn (event ∷ past) = AreGivenInTurn past
 
     -- Of votes and proposals nothing is left.
     pub record NothingIsPosed (past : ValidatorHistory D K G C) : Type 0 where
-      -- A vote that is wanted and may be cast waits for another that is being signed,
+      -- A vote that is wanted and may be signed waits for another that is being signed,
       pub signs :
-          (s : Subject D) → IsWanted past s → MayVote past s
+          (s : Subject D) → IsWanted past s → MaySign past s
           → IsSigning past ⊎ IsContested (conduct_in earlier past) s
       -- no proposal is to be made,
       pub proposes :
@@ -208,7 +225,11 @@ module _ {D K G C : Type 0} (x : NodeConfig D K G C) where
           (s : Subject D) → HadVoted earlier past s
           → is_below (numbered x.epoch (window_by past).finalized) (round_in s) ≡ false
           → HasRecast past s
-      -- one of the kind and the round of each certificate that counts was given to be sent,
+      -- each certificate that counts is known,
+      pub learns :
+          (c : Certificate C D) → Counts past c
+          → Knows (conduct_of (voter_history past)) (subject_certified c)
+      -- one of the kind and the round of each was given to be sent,
       pub certificates : (c : Certificate C D) → Counts past c → HasHanded past (kind_and_round c)
       -- and what the notarizations among them notarize to be forwarded,
       pub forwards :
@@ -222,3 +243,24 @@ module _ {D K G C : Type 0} (x : NodeConfig D K G C) where
           → is_to_be_tried (view_history view (calls_in past)) ≡ false)
       -- and of votes and proposals nothing is left.
       pub poses : NothingIsPosed past
+
+    -- What is left waits until the disk has all that was done: all else was given.
+    pub record NothingIsDueMeanwhile (past : ValidatorHistory D K G C) : Type 0 where
+      pub blocks : NobodyIsToBlock past
+      pub enters : HasEntered past
+      pub casts :
+          (s : Subject D) → HadVoted earlier past s
+          → is_below (numbered x.epoch (window_by past).finalized) (round_in s) ≡ false
+          → HasRecast past s
+      pub verifies :
+          IsVerifying past
+          ⊎ ((view : ℕ) → (window_by past).finalized ≤ view
+          → is_to_be_tried (view_history view (calls_in past)) ≡ false)
+      pub proposes :
+          (p : Proposal D) → IsOpen past p.round.view.0 → Leads past p.round.view.0
+          → p.round.epoch ≡ x.epoch → (HasVotedIn past p.round → ⊥)
+          → (window_by past).finalized ≤ p.parent.0
+          → IsGrounded (conduct_of (voter_history past)) p → ⊥
+      pub judges :
+          (p : Proposal D) → IsOpen past p.round.view.0 → (Leads past p.round.view.0 → ⊥)
+          → proposal_by x past p.round.view.0 ≡ Some p → MayVote past (Notarize p) → ⊥

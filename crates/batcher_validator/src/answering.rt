@@ -1,13 +1,16 @@
-//! What a validator is answered: a proposal, whether one is valid, and that a time is over.
+//! What a validator is answered: a proposal, whether one is valid, that a time is over, and that a
+//! signature isn't good.
 
 ghost use Rattle.std.specs.Prelude.{◌≡◌, ◌≤◌, ◌<◌, MatchBool, Some, max, true, false};
 ghost use Rattle.batcher.specs.messages.Proposal.{Proposal as TheProposal};
 ghost use Rattle.batcher_node.specs.Windows.{numbered};
 ghost use Rattle.batcher_validator.specs.Histories.{chose, expired, later_of};
+ghost use Rattle.batcher_validator.specs.Histories.{refused as was_refused};
 ghost use Rattle.batcher_validator.specs.Running.{RunMeets};
+ghost use Rattle.batcher_validator.specs.Unsigned.{with_refused};
 
 use crate::validator::Validator;
-use batcher::messages::{Digest, Identical, Proposal};
+use batcher::messages::{Digest, Identical, Proposal, Subject};
 use batcher::positions::{Round, View};
 use batcher::scheme::Scheme;
 use batcher_bytes::{Codec, Log, OwnedCodec};
@@ -79,6 +82,18 @@ where
         }
     }
 
+    /// The signature of this, which was to be signed, isn't good, so no vote is cast. This isn't
+    /// being signed any more, and is given again after `send_again`. Then poll: meanwhile another
+    /// may be.
+    pub fn refuse(&mut self, subject: &Subject<D>)
+        ensures refused { RunMeets (⟦<S as NodeConfigs<D>>⟧.of self.old.voter.node) self.old
+            self.new (was_refused subject.now) }
+        ensures voter { self.new.voter ≡ self.old.voter }
+        ensures shelf { self.new.shelf ≡ self.old.shelf }
+    {
+        self.note_refused(subject);
+    }
+
     // The view that it is in.
     pub(crate) fn current(&self) -> u64
         ensures { result ≡ self.now.voter.node.window.current }
@@ -96,6 +111,18 @@ where
         ensures shelf { self.new.shelf ≡ self.old.shelf }
     {
         self.given.intent.chosen = later_of(self.given.intent.chosen, *proposal);
+    }
+
+    fn note_refused(&mut self, subject: &Subject<D>)
+        ensures given { self.new.given ≡ record self.old.given {
+          intent = record self.old.given.intent {
+            unsigned = with_refused self.old.given.intent.unsigned subject.now;
+          };
+        } }
+        ensures voter { self.new.voter ≡ self.old.voter }
+        ensures shelf { self.new.shelf ≡ self.old.shelf }
+    {
+        self.given.intent.unsigned = self.given.intent.unsigned.with(subject);
     }
 
     fn note_expired(&mut self, view: View)

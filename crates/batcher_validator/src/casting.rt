@@ -85,6 +85,7 @@ where
         ensures copied { KeepsCopy L.is_copied_as self.old.voter.journal.log
             self.new.voter.journal.log }
     {
-        self.voter.cast(vote)
+        let waiting = self.shelf.waiting(self.voter.waits());
+        self.voter.cast(vote, waiting)
     }
 }

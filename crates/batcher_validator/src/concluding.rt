@@ -72,7 +72,8 @@ where
     }
 
     /// Makes the construction of the next view by verdicts on the attestations that `next_attempt`
-    /// lends, and keeps its certificate. Then poll.
+    /// lends, and keeps its certificate. Where there is no memory to keep it for the disk too, that
+    /// is done before the next vote is written, or the next construction made. Then poll.
     ///
     /// False where they aren't those of the next attempt any more, as where a vote came meanwhile.
     pub fn conclude(
@@ -192,6 +193,7 @@ where
         ensures copied { KeepsCopy L.is_copied_as self.old.voter.journal.log
             self.new.voter.journal.log }
     {
-        self.voter.conclude(subject, list, verdicts)
+        let waiting = self.shelf.waiting(self.voter.waits());
+        self.voter.conclude(subject, list, verdicts, waiting)
     }
 }

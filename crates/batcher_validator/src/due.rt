@@ -11,7 +11,8 @@ ghost use Rattle.batcher_validator.specs.Posing.{BlocksNobody, CastsNone, Enters
 ghost use Rattle.batcher_validator.specs.Queues.{AreDistinct};
 ghost use Rattle.batcher_validator.specs.Running.{ForEachRun, Gives, IsReadyTask, RunStays};
 ghost use Rattle.batcher_validator.specs.Shelves.{HaveNoFinal, IsAt, kind_and_round};
-ghost use Rattle.batcher_validator.specs.Tasks.{NothingIsDue};
+ghost use Rattle.batcher_validator.specs.Tasks.{IsGivenMeanwhile, NothingIsDue};
+ghost use Rattle.batcher_validator.specs.Tasks.{NothingIsDueMeanwhile};
 ghost use Rattle.batcher_voter.specs.Voting.{BeginWithOneView, ForEachLife, IsNextView};
 
 use crate::tally::Tally;
@@ -66,6 +67,72 @@ where
                     None => self.give_forward(),
                 },
             },
+        }
+    }
+
+    // A view to enter, an own vote to cast again, what is to be proposed or judged, or votes to
+    // have verified.
+    pub(crate) fn give_meanwhile(&mut self) -> Option<Task<S::Signature, D>>
+        requires open { self.old.voter.journal.is_open ≡ true }
+        requires followed { MayBeWrittenBehind D.eq self.old.voter.journal.contents.floor []
+            self.old.voter.journal.contents.votes }
+        requires begins { BeginWithOneView self.old.voter }
+        requires nobody { BlocksNobody ⟦<S as NodeConfigs<D>>⟧.of self.old }
+        ensures gives { IfSome result
+            (Gives (⟦<S as NodeConfigs<D>>⟧.of self.old.voter.node) self.old self.new) }
+        ensures ready { IfSome result (IsReadyTask self.old) }
+        ensures meanwhile { IfSome result IsGivenMeanwhile }
+        ensures nothing { result ≡ None → ForEachRun
+            (⟦<S as NodeConfigs<D>>⟧.of self.old.voter.node) self.old (λ past earlier.
+            NothingIsDueMeanwhile (⟦<S as NodeConfigs<D>>⟧.of self.old.voter.node) earlier past) }
+        ensures same { result ≡ None → self.new ≡ self.old }
+        ensures voter { self.new.voter ≡ self.old.voter }
+        ensures less { IfSome result
+            (HasLessLeft (⟦<S as NodeConfigs<D>>⟧.of self.old.voter.node) self.old self.new) }
+    {
+        match self.next_view() {
+            Some(view) => {
+                self.note_view(view);
+                Some(Task::Enter(view))
+            }
+            None => match self.next_cast() {
+                Some(vote) => {
+                    self.note_cast();
+                    Some(Task::Cast(vote))
+                }
+                None => self.pose_meanwhile(),
+            },
+        }
+    }
+
+    // What is to be proposed or judged, or votes to have verified.
+    fn pose_meanwhile(&mut self) -> Option<Task<S::Signature, D>>
+        requires open { self.old.voter.journal.is_open ≡ true }
+        requires begins { BeginWithOneView self.old.voter }
+        requires nobody { BlocksNobody ⟦<S as NodeConfigs<D>>⟧.of self.old }
+        requires no_view { EntersNone self.old }
+        requires no_cast { CastsNone self.old }
+        ensures gives { IfSome result
+            (Gives (⟦<S as NodeConfigs<D>>⟧.of self.old.voter.node) self.old self.new) }
+        ensures ready { IfSome result (IsReadyTask self.old) }
+        ensures meanwhile { IfSome result IsGivenMeanwhile }
+        ensures nothing { result ≡ None → ForEachRun
+            (⟦<S as NodeConfigs<D>>⟧.of self.old.voter.node) self.old (λ past earlier.
+            NothingIsDueMeanwhile (⟦<S as NodeConfigs<D>>⟧.of self.old.voter.node) earlier past) }
+        ensures same { result ≡ None → self.new ≡ self.old }
+        ensures voter { self.new.voter ≡ self.old.voter }
+        ensures less { IfSome result
+            (HasLessLeft (⟦<S as NodeConfigs<D>>⟧.of self.old.voter.node) self.old self.new) }
+    {
+        match self.pose_proposal() {
+            Some(task) => Some(task),
+            None => {
+                if self.has_votes_waiting() {
+                    self.note_verifying();
+                    return Some(Task::Verify);
+                }
+                None
+            }
         }
     }
 

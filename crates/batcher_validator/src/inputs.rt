@@ -1,21 +1,24 @@
 //! What comes to a validator: messages of its peers, and its own votes.
 
-ghost use Rattle.std.specs.Prelude.{◌≡◌, ◌<◌, ◌≤◌, ◌⊎◌, Err, IfOk, IfSome, length, None, Ok};
-ghost use Rattle.std.specs.Prelude.{MatchBool, OnErr, OnOk, false, option_and_then, true};
+ghost use Rattle.std.specs.Prelude.{◌≡◌, ◌<◌, ◌≤◌, ◌⊎◌, ◌∷◌, Err, IfOk, IfSome, None, Ok};
+ghost use Rattle.std.specs.Prelude.{MatchBool, OnErr, OnOk, false, length, option_and_then, true};
 ghost use Rattle.batcher.specs.Verifiers.{certifies_itself};
-ghost use Rattle.batcher.specs.Votes.{round_in, subject_of};
+ghost use Rattle.batcher.specs.Votes.{round_in, subject_certified, subject_of};
 ghost use Rattle.batcher.specs.calls.Call.TheVariants.{Network as NetworkCall};
-ghost use Rattle.batcher_agreement.specs.Lives.{called};
+ghost use Rattle.batcher_agreement.specs.Lives.{called, verified};
 ghost use Rattle.batcher_node.specs.Events.{certificate_came, constructed, view_entered, vote_came};
 ghost use Rattle.batcher_node.specs.Nodes.{IsAtRest, IsLedByAnother, IsNext, SameNode, slot_at};
 ghost use Rattle.batcher_node.specs.declared.answers.EnterFault.{EnterFault};
 ghost use Rattle.batcher_node.specs.Represents.{IsHeard, MayNeedIn};
-ghost use Rattle.batcher_validator.specs.Running.{HasConstructed, RunMeets, RunStays};
+ghost use Rattle.batcher_validator.specs.Running.{HasConstructed, RunMeets, RunStays, RunTakes};
 ghost use Rattle.batcher_validator.specs.Running.{blocks_sender};
 ghost use Rattle.batcher_validator.specs.Shelves.{Shelves};
-ghost use Rattle.batcher_validator.specs.Histories.{answered, did, took};
+ghost use Rattle.batcher_validator.specs.Histories.{answered, did};
+ghost use Rattle.batcher_voter.specs.Keeping.{IsKnownAlready};
+ghost use Rattle.batcher_voter.specs.Knowledge.{HasRoom};
 ghost use Rattle.batcher_voter.specs.Needing.{CertificateNeeds, ConstructionNeeds};
-ghost use Rattle.batcher_voter.specs.Voting.{BeginWithOneView, VoterMeets, VoterStays};
+ghost use Rattle.batcher_voter.specs.Voting.{BeginWithOneView, ForEachLife, IsVoting, VoterMeets};
+ghost use Rattle.batcher_voter.specs.Voting.{VoterStays};
 ghost use Rattle.batcher_voter.specs.Voting.{was_recorded};
 ghost use Rattle.batcher_bytes.specs.Copies.{KeepsCopy};
 
@@ -102,7 +105,8 @@ where
         self.voter.receive_vote(peer, vote)
     }
 
-    /// Takes in a certificate that a peer sent, as the voter does, and keeps it. Then poll.
+    /// Takes in a certificate that a peer sent, as the voter does, and keeps it. What can't be kept
+    /// for the disk isn't learned: that is refused for memory. Then poll.
     pub fn receive_certificate(
         &mut self,
         peer: S::PublicKey,
@@ -231,34 +235,71 @@ where
     }
 
     /// Takes in a certificate from beyond the window, by which who fell behind goes on. It is
-    /// verified and kept; then poll. It answers false where it doesn't certify what it names: then
-    /// drop who sent it.
+    /// verified, learned and kept, or refused for memory; then poll. It answers false where it
+    /// doesn't certify what it names: then drop who sent it.
     pub fn catch_up(
         &mut self,
         certificate: Certificate<S::Certificate, D>,
     ) -> Result<bool, AllocError>
-        ensures took { result ≡ Ok true → RunMeets
-            (⟦<S as NodeConfigs<D>>⟧.of self.old.voter.node) self.old self.new
-            (took certificate) }
+        ensures took { result ≡ Ok true → RunTakes
+            (⟦<S as NodeConfigs<D>>⟧.of self.old.voter.node) certificate self.old self.new }
         ensures forged { result ≡ Ok false
             → certifies_itself (S.meaning self.old.voter.node.scheme) certificate ≡ false }
         ensures passed { result ≡ Ok false → self.new ≡ self.old }
         ensures taken { result ≡ Ok true → Shelves self.old.voter.node.epoch
             self.old.voter.node.window.finalized certificate self.old.shelf.certificates
             self.new.shelf.certificates }
-        ensures needed { OnErr result (self.old.shelf.room ≡ 0) }
+        ensures needed { OnErr result ((self.old.shelf.room ≡ 0)
+            ⊎ (HasRoom self.old.voter.knowledge (round_in (subject_certified certificate)).view.0
+            → IsKnownAlready self.old.voter.knowledge (subject_certified certificate) → ⊥)) }
         ensures stays { OnErr result
             (RunStays (⟦<S as NodeConfigs<D>>⟧.of self.old.voter.node) self.old self.new) }
-        ensures voter { self.new.voter ≡ self.old.voter }
+        ensures node { self.new.voter.node ≡ self.old.voter.node }
+        ensures copied { KeepsCopy L.is_copied_as self.old.voter.journal.log
+            self.new.voter.journal.log }
     {
         if !self.verifies(&certificate) {
             drop(certificate);
             return Ok(false);
         }
         match self.make_room() {
+            Ok(()) => match self.catch_up_with_room(certificate) {
+                Ok(()) => Ok(true),
+                Err(fault) => Err(fault),
+            },
+            Err(fault) => {
+                drop(certificate);
+                Err(fault)
+            }
+        }
+    }
+
+    // The same of one that certifies, for which there is room.
+    fn catch_up_with_room(
+        &mut self,
+        certificate: Certificate<S::Certificate, D>,
+    ) -> Result<(), AllocError>
+        requires room { 1 ≤ self.old.shelf.room }
+        requires stirred { self.old.given.calm ≡ false }
+        requires certifies { certifies_itself (S.meaning self.old.voter.node.scheme) certificate
+            ≡ true }
+        ensures took { OnOk result (RunTakes (⟦<S as NodeConfigs<D>>⟧.of self.old.voter.node)
+            certificate self.old self.new) }
+        ensures taken { OnOk result (Shelves self.old.voter.node.epoch
+            self.old.voter.node.window.finalized certificate self.old.shelf.certificates
+            self.new.shelf.certificates) }
+        ensures needed { OnErr result (HasRoom self.old.voter.knowledge
+            (round_in (subject_certified certificate)).view.0
+            → IsKnownAlready self.old.voter.knowledge (subject_certified certificate) → ⊥) }
+        ensures stays { OnErr result
+            (RunStays (⟦<S as NodeConfigs<D>>⟧.of self.old.voter.node) self.old self.new) }
+        ensures node { self.new.voter.node ≡ self.old.voter.node }
+        ensures log { self.new.voter.journal.log ≡ self.old.voter.journal.log }
+    {
+        match self.learn_verified(&certificate) {
             Ok(()) => {
                 self.shelve(certificate);
-                Ok(true)
+                Ok(())
             }
             Err(fault) => {
                 drop(certificate);
@@ -267,7 +308,32 @@ where
         }
     }
 
-    fn verifies(&self, certificate: &Certificate<S::Certificate, D>) -> bool
+    // The voter learns a certificate that certifies.
+    fn learn_verified(
+        &mut self,
+        certificate: &Certificate<S::Certificate, D>,
+    ) -> Result<(), AllocError>
+        requires { certifies_itself (S.meaning self.old.voter.node.scheme) certificate.now ≡ true }
+        ensures learned { OnOk result (ForEachLife
+            (⟦<S as NodeConfigs<D>>⟧.of self.old.voter.node) self.old.voter (λ past earlier.
+            IsVoting (⟦<S as NodeConfigs<D>>⟧.of self.old.voter.node)
+            (verified certificate.now ∷ past) earlier self.new.voter)) }
+        ensures needed { OnErr result (HasRoom self.old.voter.knowledge
+            (round_in (subject_certified certificate.now)).view.0
+            → IsKnownAlready self.old.voter.knowledge (subject_certified certificate.now) → ⊥) }
+        ensures stays { OnErr result (VoterStays
+            (⟦<S as NodeConfigs<D>>⟧.of self.old.voter.node) self.old.voter self.new.voter) }
+        ensures node { self.new.voter.node ≡ self.old.voter.node }
+        ensures contents { self.new.voter.journal.contents ≡ self.old.voter.journal.contents }
+        ensures open { self.new.voter.journal.is_open ≡ self.old.voter.journal.is_open }
+        ensures log { self.new.voter.journal.log ≡ self.old.voter.journal.log }
+        ensures given { self.new.given ≡ self.old.given }
+        ensures shelf { self.new.shelf ≡ self.old.shelf }
+    {
+        self.voter.learn_verified(certificate)
+    }
+
+    pub(crate) fn verifies(&self, certificate: &Certificate<S::Certificate, D>) -> bool
         ensures { result
             ≡ certifies_itself (S.meaning self.now.voter.node.scheme) certificate.now }
     {
@@ -388,7 +454,8 @@ where
         ensures copied { KeepsCopy L.is_copied_as self.old.voter.journal.log
             self.new.voter.journal.log }
     {
-        self.voter.try_construct(rng)
+        let waiting = self.shelf.waiting(self.voter.waits());
+        self.voter.try_construct(rng, waiting)
     }
 
     /// Enters a view with its leader, as the voter does.

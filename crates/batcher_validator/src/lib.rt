@@ -16,8 +16,7 @@ mod shelf;
 mod starting;
 mod tally;
 mod task;
-#[cfg(test)]
-mod tests;
+mod unsigned;
 mod validator;
 
 pub use looping::{Loop, Next};

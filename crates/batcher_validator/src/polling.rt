@@ -15,12 +15,16 @@ ghost use Rattle.batcher_validator.specs.Shelves.{kind_and_round};
 ghost use Rattle.batcher_validator.specs.declared.task.PollFault.{PollFault};
 ghost use Rattle.batcher_validator.specs.Histories.{again};
 ghost use Rattle.batcher_validator.specs.declared.task.Task.{Task as TheTask};
-ghost use Rattle.batcher_validator.specs.Tasks.{NothingIsDue};
+ghost use Rattle.batcher_validator.specs.Tasks.{IsGivenMeanwhile, NothingIsDue};
+ghost use Rattle.batcher_validator.specs.Tasks.{NothingIsDueMeanwhile};
+ghost use Rattle.batcher_validator.specs.Disks.{with_write_done, with_write_given};
+ghost use Rattle.batcher_validator.specs.Unsigned.{nothing_unsigned};
 ghost use Rattle.batcher_voter.specs.Voting.{BeginWithOneView, ForEachLife, IsNextView};
-ghost use Rattle.batcher_bytes.specs.Copies.{KeepsCopy, all_copied};
+ghost use Rattle.batcher_bytes.specs.Copies.{KeepsCopy};
 
 use crate::tally::Tally;
 use crate::task::{PollFault, Task};
+use crate::unsigned::Unsigned;
 use crate::validator::Validator;
 use batcher::messages::{Digest, Identical, Kind, Proposal, Vote};
 use batcher::positions::{Participant, Round, View};
@@ -79,6 +83,37 @@ where
         }
     }
 
+    /// What is to be done next while a write is under way: nothing is sent, nothing is final, and
+    /// nothing is signed, so that the disk comes to have all that was done. None where only that is
+    /// left.
+    pub fn poll_meanwhile(&mut self) -> Result<Option<Task<S::Signature, D>>, PollFault>
+        ensures gives { IfOk result (λ given. IfSome given
+            (Gives (⟦<S as NodeConfigs<D>>⟧.of self.old.voter.node) self.old self.new)) }
+        ensures ready { IfOk result (λ given. IfSome given (IsReadyTask self.old)) }
+        ensures meanwhile { IfOk result (λ given. IfSome given IsGivenMeanwhile) }
+        ensures nothing { result ≡ Ok None → ForEachRun
+            (⟦<S as NodeConfigs<D>>⟧.of self.old.voter.node) self.old
+            (λ past earlier. NothingIsDueMeanwhile (⟦<S as NodeConfigs<D>>⟧.of self.old.voter.node)
+            earlier past) }
+        ensures same { result ≡ Ok None → self.new ≡ self.old }
+        ensures closed { OnErr result ((result ≡ Err PollFault.Closed)
+            × ((self.old.voter.journal.is_open ≡ false) × (self.new ≡ self.old))) }
+        ensures voter { self.new.voter ≡ self.old.voter }
+        ensures less { IfOk result (λ given. IfSome given
+            (HasLessLeft (⟦<S as NodeConfigs<D>>⟧.of self.old.voter.node) self.old self.new)) }
+    {
+        if !self.is_open() {
+            return Err(PollFault::Closed);
+        }
+        match self.next_block() {
+            Some((who, cause)) => {
+                self.note_block(who);
+                Ok(Some(Task::Block(who, cause)))
+            }
+            None => Ok(self.give_meanwhile()),
+        }
+    }
+
     /// Does nothing. A crash leaves what was done, by which `start` goes on.
     pub fn leaves_what_was_done(&self)
         ensures { RunLeaves (⟦<S as NodeConfigs<D>>⟧.of self.now.voter.node)
@@ -87,7 +122,8 @@ where
         self.voter.leaves_what_was_done();
     }
 
-    /// All that is to be sent is given again: what was sent may be lost.
+    /// All that is to be sent is given again, and what is to be signed: what was sent may be lost,
+    /// and what wasn't answered too.
     pub fn send_again(&mut self)
         ensures meets { RunMeets (⟦<S as NodeConfigs<D>>⟧.of self.old.voter.node) self.old
             self.new again }
@@ -100,6 +136,7 @@ where
         ensures given { self.new.given ≡ record self.old.given {
           tally = record self.old.given.tally { sent = 0 };
           forwarding = None;
+          intent = record self.old.given.intent { signing = None; unsigned = nothing_unsigned };
         } }
         ensures voter { self.new.voter ≡ self.old.voter }
         ensures certificates { self.new.shelf.certificates ≡ self.old.shelf.certificates }
@@ -107,6 +144,8 @@ where
     {
         self.given.tally.sent = 0;
         self.given.forwarding = None;
+        self.given.intent.signing = None;
+        self.given.intent.unsigned = Unsigned::nothing();
         self.shelf.begin_again();
     }
 
@@ -224,17 +263,22 @@ where
     S::Signature: Codec + Identical,
     S::Certificate: OwnedCodec,
 {
-    /// The copy of its journal's log lacks nothing any more.
-    pub fn note_copied(&mut self)
-        ensures noted { self.new ≡ record self.old {
-          voter = record self.old.voter {
-            journal = record self.old.voter.journal { log = all_copied self.old.voter.journal.log };
-          };
-        } }
+    /// A write of all that the copy of its journal's log lacks is under way, by this number.
+    pub fn note_given(&mut self, number: u64)
+        ensures noted { self.new ≡ with_write_given self.old number }
         ensures stays { RunStays (⟦<S as NodeConfigs<D>>⟧.of self.old.voter.node) self.old
             self.new }
     {
-        self.voter.note_copied();
+        self.voter.note_given(number);
+    }
+
+    /// The write of its journal's log that was under way is done.
+    pub fn note_done(&mut self)
+        ensures noted { self.new ≡ with_write_done self.old }
+        ensures stays { RunStays (⟦<S as NodeConfigs<D>>⟧.of self.old.voter.node) self.old
+            self.new }
+    {
+        self.voter.note_done();
     }
 }
 

@@ -13,18 +13,22 @@ ghost use Rattle.batcher_agreement.specs.Policy.{IsGrounded, Knows};
 ghost use Rattle.batcher_journal.specs.Contradictions.{IsFree};
 ghost use Rattle.batcher_node.specs.Windows.{is_of, numbered};
 ghost use Rattle.batcher_validator.specs.Ending.{IsPreferred, HasLessLeft, WaitsForVote};
-ghost use Rattle.batcher_validator.specs.Posing.{CanLead, CanPose, CanVote, CannotLead, CannotPose};
-ghost use Rattle.batcher_validator.specs.Posing.{CannotVote, Grounds, HasCast, HasNotCast};
+ghost use Rattle.batcher_validator.specs.Posing.{CanLead, CanPose, CanSign, CanVote, CannotLead};
+ghost use Rattle.batcher_validator.specs.Posing.{CannotPose, CannotSign, CannotVote, Grounds};
+ghost use Rattle.batcher_validator.specs.Posing.{HasCast, HasNotCast};
 ghost use Rattle.batcher_validator.specs.Posing.{IsLeader, IsNotToJudge, IsNotToPropose};
 ghost use Rattle.batcher_validator.specs.Posing.{IsNotToSign, IsProposalNow, IsProposed, IsToSign};
 ghost use Rattle.batcher_validator.specs.Posing.{Signs, SignsNothing};
 ghost use Rattle.batcher_validator.specs.Running.{ForEachRun, Gives, IsReadyTask};
-ghost use Rattle.batcher_validator.specs.Tasks.{MayVote, NothingIsPosed};
+ghost use Rattle.batcher_validator.specs.Tasks.{IsGivenMeanwhile, MaySign, MayVote};
+ghost use Rattle.batcher_validator.specs.Tasks.{NothingIsPosed};
+ghost use Rattle.batcher_validator.specs.Unsigned.{is_unsigned};
 ghost use Rattle.batcher_voter.specs.Knowledge.{learned_at};
 ghost use Rattle.batcher_voter.specs.Voting.{ForEachLife, IsFinalizable, Permits, Says};
 ghost use Rattle.batcher_voter.specs.declared.answers.Permission.TheVariants.{Sign};
 
 use crate::task::Task;
+use crate::unsigned::Unsigned;
 use crate::validator::Validator;
 use batcher::messages::{Digest, Identical, Proposal, Subject, Vote};
 use batcher::positions::{Participant, Round, View};
@@ -57,18 +61,35 @@ where
                 self.note_signing(subject);
                 Some(Task::Sign(subject))
             }
-            None => match self.next_to_propose() {
-                Some((view, parent)) => {
-                    self.note_posed(view);
-                    Some(Task::Propose { view, parent })
+            None => self.pose_proposal(),
+        }
+    }
+
+    // What is to be proposed, or judged.
+    pub(crate) fn pose_proposal(&mut self) -> Option<Task<S::Signature, D>>
+        requires { self.old.voter.journal.is_open ≡ true }
+        ensures gives { IfSome result
+            (Gives (⟦<S as NodeConfigs<D>>⟧.of self.old.voter.node) self.old self.new) }
+        ensures ready { IfSome result (IsReadyTask self.old) }
+        ensures meanwhile { IfSome result IsGivenMeanwhile }
+        ensures proposes { result ≡ None → IsNotToPropose ⟦<S as NodeConfigs<D>>⟧.of self.old }
+        ensures judges { result ≡ None → IsNotToJudge ⟦<S as NodeConfigs<D>>⟧.of self.old }
+        ensures same { result ≡ None → self.new ≡ self.old }
+        ensures voter { self.new.voter ≡ self.old.voter }
+        ensures less { IfSome result
+            (HasLessLeft (⟦<S as NodeConfigs<D>>⟧.of self.old.voter.node) self.old self.new) }
+    {
+        match self.next_to_propose() {
+            Some((view, parent)) => {
+                self.note_posed(view);
+                Some(Task::Propose { view, parent })
+            }
+            None => match self.next_to_judge() {
+                Some(proposal) => {
+                    self.note_posed(proposal.round.view);
+                    Some(Task::Judge(proposal))
                 }
-                None => match self.next_to_judge() {
-                    Some(proposal) => {
-                        self.note_posed(proposal.round.view);
-                        Some(Task::Judge(proposal))
-                    }
-                    None => None,
-                },
+                None => None,
             },
         }
     }
@@ -122,7 +143,7 @@ where
         }
     }
 
-    // Whether what was given to be signed may still be voted for.
+    // Whether what was given to be signed may still be signed.
     fn is_signing(&self) -> bool
         requires { self.now.voter.journal.is_open ≡ true }
         ensures signs { MatchBool result (Signs ⟦<S as NodeConfigs<D>>⟧.of self.now)
@@ -132,7 +153,7 @@ where
             (⟦<S as NodeConfigs<D>>⟧.of self.now.voter.node) past earlier self.now → ⊥) }
     {
         match self.signing() {
-            Some(subject) => self.may_vote(&subject),
+            Some(subject) => self.may_sign(&subject),
             None => false,
         }
     }
@@ -141,6 +162,40 @@ where
         ensures { result ≡ self.now.given.intent.signing }
     {
         self.given.intent.signing
+    }
+
+    // Whether a subject may be given to be signed.
+    fn may_sign(&self, subject: &Subject<D>) -> bool
+        requires { self.now.voter.journal.is_open ≡ true }
+        ensures signs { MatchBool result (CanSign ⟦<S as NodeConfigs<D>>⟧.of self.now subject.now)
+            (CannotSign ⟦<S as NodeConfigs<D>>⟧.of self.now subject.now) }
+        ensures free { result ≡ true → IsFree D.eq self.now.voter.journal.contents.votes
+            subject.now }
+        ensures preferred { result ≡ false → IsPreferred D.eq self.now.voter subject.now
+            → ForEachRun (⟦<S as NodeConfigs<D>>⟧.of self.now.voter.node) self.now
+            (λ past earlier. MaySign (⟦<S as NodeConfigs<D>>⟧.of self.now.voter.node) earlier past
+            subject.now → ⊥) }
+    {
+        if self.is_unsigned(subject) {
+            return false;
+        }
+        if self.may_vote(subject) {
+            return true;
+        }
+        false
+    }
+
+    // Whether a signature of its kind was refused, of its view or a later one.
+    fn is_unsigned(&self, subject: &Subject<D>) -> bool
+        ensures { result ≡ is_unsigned self.now.given.intent.unsigned subject.now }
+    {
+        self.unsigned().has(subject)
+    }
+
+    fn unsigned(&self) -> Unsigned
+        ensures { result ≡ self.now.given.intent.unsigned }
+    {
+        self.given.intent.unsigned
     }
 
     // Whether a subject may be voted for.
@@ -216,7 +271,7 @@ where
         self.begins();
         match self.notarized(view) {
             Some(proposal) => {
-                if self.may_vote(&Subject::Finalize { proposal }) {
+                if self.may_sign(&Subject::Finalize { proposal }) {
                     return Some(proposal);
                 }
                 None
@@ -269,7 +324,7 @@ where
             return None;
         }
         let round = self.round_of(view);
-        if self.may_vote(&Subject::Nullify { round }) {
+        if self.may_sign(&Subject::Nullify { round }) {
             return Some(round);
         }
         None
@@ -301,7 +356,7 @@ where
     {
         match self.chosen() {
             Some(proposal) => {
-                if self.may_vote(&Subject::Notarize { proposal }) {
+                if self.may_sign(&Subject::Notarize { proposal }) {
                     return Some(proposal);
                 }
                 None

@@ -1,20 +1,26 @@
 //! A validator takes in what its disk has.
 
-ghost use Rattle.std.specs.Prelude.{◌≡◌, IfOk, IfSome, None, Ok, OnOk};
+ghost use Rattle.std.specs.Prelude.{◌≡◌, ◌≤◌, ◌∷◌, IfOk, IfSome, None, Ok, OnOk, false, true};
+ghost use Rattle.batcher.specs.Verifiers.{certifies_itself};
 ghost use Rattle.batcher.specs.messages.Certificate.{Certificate as TheCertificate};
+ghost use Rattle.batcher_agreement.specs.Lives.{verified};
 ghost use Rattle.batcher_bytes.specs.Format.{whole};
 ghost use Rattle.batcher_bytes.specs.Messages.{certificate_format, versioned};
-ghost use Rattle.batcher_validator.specs.Histories.{took};
 ghost use Rattle.batcher_validator.specs.Recalling.{IsAtPlace, Recalls};
-ghost use Rattle.batcher_validator.specs.Running.{AreBytesOf, HasCertificate, RunMeets};
+ghost use Rattle.batcher_validator.specs.Running.{AreBytesOf, HasCertificate, RunTakes};
+ghost use Rattle.batcher.specs.Votes.{round_in, subject_certified};
+ghost use Rattle.batcher_voter.specs.Keeping.{HasOnDisk};
+ghost use Rattle.batcher_voter.specs.Reopening.{StaysKnown};
+ghost use Rattle.batcher_voter.specs.Voting.{ForEachLife, IsVoting};
 
 use crate::validator::Validator;
-use batcher::messages::{Certificate, Digest, Identical};
+use batcher::messages::{Certificate, Digest, Identical, Kind};
+use batcher::positions::Round;
 use batcher::scheme::Scheme;
 use batcher_bytes::{Codec, DecodeError, Log, OwnedCodec, decode_owned};
 use batcher_node::NodeConfigs;
 use batcher_voter::StartFault;
-use std::alloc::Global;
+use std::alloc::{AllocError, Global};
 
 impl<S: Scheme<D>, D: Digest + Codec, L: Log> Validator<S, D, L>
 where
@@ -27,7 +33,10 @@ where
             (⟦<S as NodeConfigs<D>>⟧.of self.old.voter.node) (HasCertificate
             (certificate_format S.Certificate.format D.format) self.old.voter.journal.contents)
             self.old self.new) }
-        ensures voter { self.new.voter ≡ self.old.voter }
+        ensures knows { OnOk result
+            (StaysKnown self.old.voter.knowledge self.new.voter.knowledge) }
+        ensures node { self.new.voter.node ≡ self.old.voter.node }
+        ensures journal { self.new.voter.journal ≡ self.old.voter.journal }
     {
         match self.recall_floor(alloc) {
             Ok(()) => match self.recall_others(alloc) {
@@ -44,7 +53,10 @@ where
             (⟦<S as NodeConfigs<D>>⟧.of self.old.voter.node) (λ c. whole
             (versioned (certificate_format S.Certificate.format D.format))
             self.old.voter.journal.contents.finalization ≡ Ok c) self.old self.new) }
-        ensures voter { self.new.voter ≡ self.old.voter }
+        ensures knows { OnOk result
+            (StaysKnown self.old.voter.knowledge self.new.voter.knowledge) }
+        ensures node { self.new.voter.node ≡ self.old.voter.node }
+        ensures journal { self.new.voter.journal ≡ self.old.voter.journal }
     {
         match self.floor_certificate(alloc) {
             Ok(Some(certificate)) => match self.recall_one(certificate) {
@@ -61,7 +73,10 @@ where
             (⟦<S as NodeConfigs<D>>⟧.of self.old.voter.node) (AreBytesOf
             (certificate_format S.Certificate.format D.format)
             self.old.voter.journal.contents.certificates) self.old self.new) }
-        ensures voter { self.new.voter ≡ self.old.voter }
+        ensures knows { OnOk result
+            (StaysKnown self.old.voter.knowledge self.new.voter.knowledge) }
+        ensures node { self.new.voter.node ≡ self.old.voter.node }
+        ensures journal { self.new.voter.journal ≡ self.old.voter.journal }
     {
         for i in 0..self.voter.journal().certificates().len() {
             match self.recall_at(alloc, i) {
@@ -77,7 +92,10 @@ where
             (⟦<S as NodeConfigs<D>>⟧.of self.old.voter.node) (IsAtPlace
             (certificate_format S.Certificate.format D.format)
             self.old.voter.journal.contents.certificates i) self.old self.new) }
-        ensures voter { self.new.voter ≡ self.old.voter }
+        ensures knows { OnOk result
+            (StaysKnown self.old.voter.knowledge self.new.voter.knowledge) }
+        ensures node { self.new.voter.node ≡ self.old.voter.node }
+        ensures journal { self.new.voter.journal ≡ self.old.voter.journal }
     {
         match self.kept_certificate(alloc, i) {
             Ok(certificate) => match self.recall_one(certificate) {
@@ -90,15 +108,82 @@ where
 
     // The voter has verified it.
     fn recall_one(&mut self, certificate: Certificate<S::Certificate, D>) -> Result<(), StartFault>
-        ensures took { OnOk result (RunMeets (⟦<S as NodeConfigs<D>>⟧.of self.old.voter.node)
-            self.old self.new (took certificate)) }
-        ensures voter { self.new.voter ≡ self.old.voter }
+        requires { HasOnDisk (certificate_format S.Certificate.format D.format)
+            self.old.voter.journal.contents certificate }
+        ensures took { OnOk result (RunTakes (⟦<S as NodeConfigs<D>>⟧.of self.old.voter.node)
+            certificate self.old self.new) }
+        ensures knows { OnOk result
+            (StaysKnown self.old.voter.knowledge self.new.voter.knowledge) }
+        ensures node { self.new.voter.node ≡ self.old.voter.node }
+        ensures journal { self.new.voter.journal ≡ self.old.voter.journal }
     {
-        match self.catch_up(certificate) {
-            Ok(true) => Ok(()),
-            Ok(false) => Err(StartFault::Forged),
-            Err(_) => Err(StartFault::OutOfMemory),
+        if !self.verifies(&certificate) {
+            drop(certificate);
+            return Err(StartFault::Forged);
         }
+        match self.make_room() {
+            Ok(()) => match self.recall_with_room(certificate) {
+                Ok(()) => Ok(()),
+                Err(fault) => Err(fault),
+            },
+            Err(_) => {
+                drop(certificate);
+                Err(StartFault::OutOfMemory)
+            }
+        }
+    }
+
+    // The same of one that certifies, for which there is room.
+    fn recall_with_room(
+        &mut self,
+        certificate: Certificate<S::Certificate, D>,
+    ) -> Result<(), StartFault>
+        requires room { 1 ≤ self.old.shelf.room }
+        requires stirred { self.old.given.calm ≡ false }
+        requires certifies { certifies_itself (S.meaning self.old.voter.node.scheme) certificate
+            ≡ true }
+        requires there { HasOnDisk (certificate_format S.Certificate.format D.format)
+            self.old.voter.journal.contents certificate }
+        ensures took { OnOk result (RunTakes (⟦<S as NodeConfigs<D>>⟧.of self.old.voter.node)
+            certificate self.old self.new) }
+        ensures knows { OnOk result
+            (StaysKnown self.old.voter.knowledge self.new.voter.knowledge) }
+        ensures node { self.new.voter.node ≡ self.old.voter.node }
+        ensures journal { self.new.voter.journal ≡ self.old.voter.journal }
+    {
+        match self.learn_again(&certificate) {
+            Ok(()) => {
+                self.shelve(certificate);
+                Ok(())
+            }
+            Err(_) => {
+                drop(certificate);
+                Err(StartFault::OutOfMemory)
+            }
+        }
+    }
+
+    // The voter learns it again.
+    fn learn_again(
+        &mut self,
+        certificate: &Certificate<S::Certificate, D>,
+    ) -> Result<(), AllocError>
+        requires certifies { certifies_itself (S.meaning self.old.voter.node.scheme)
+            certificate.now ≡ true }
+        requires there { HasOnDisk (certificate_format S.Certificate.format D.format)
+            self.old.voter.journal.contents certificate.now }
+        ensures learned { OnOk result (ForEachLife
+            (⟦<S as NodeConfigs<D>>⟧.of self.old.voter.node) self.old.voter (λ past earlier.
+            IsVoting (⟦<S as NodeConfigs<D>>⟧.of self.old.voter.node)
+            (verified certificate.now ∷ past) earlier self.new.voter)) }
+        ensures knows { OnOk result
+            (StaysKnown self.old.voter.knowledge self.new.voter.knowledge) }
+        ensures node { self.new.voter.node ≡ self.old.voter.node }
+        ensures journal { self.new.voter.journal ≡ self.old.voter.journal }
+        ensures given { self.new.given ≡ self.old.given }
+        ensures shelf { self.new.shelf ≡ self.old.shelf }
+    {
+        self.voter.learn_again(certificate)
     }
 
     fn floor_certificate(
@@ -111,13 +196,22 @@ where
         ensures none { result ≡ Ok None → (c : TheCertificate S.Certificate D) → whole
             (versioned (certificate_format S.Certificate.format D.format))
             self.now.voter.journal.contents.finalization ≡ Ok c → ⊥ }
+        ensures there { IfOk result (λ it. IfSome it (HasOnDisk
+            (certificate_format S.Certificate.format D.format) self.now.voter.journal.contents)) }
     {
         let bytes = self.voter.journal().finalization();
         if bytes.is_empty() {
             return Ok(None);
         }
-        match decoded(alloc, bytes) {
-            Ok(certificate) => Ok(Some(certificate)),
+        match decoded_of(alloc, self.voter.journal().floor(), bytes) {
+            Ok(certificate) => {
+                // The voter has looked at its kind.
+                if certificate.kind() != Kind::Finalization {
+                    drop(certificate);
+                    return Err(StartFault::Malformed);
+                }
+                Ok(Some(certificate))
+            }
             Err(fault) => Err(fault),
         }
     }
@@ -127,26 +221,42 @@ where
         alloc: Global,
         i: usize,
     ) -> Result<Certificate<S::Certificate, D>, StartFault>
-        ensures { IfOk result (IsAtPlace (certificate_format S.Certificate.format D.format)
+        ensures at { IfOk result (IsAtPlace (certificate_format S.Certificate.format D.format)
             self.now.voter.journal.contents.certificates i) }
+        ensures there { IfOk result (HasOnDisk
+            (certificate_format S.Certificate.format D.format) self.now.voter.journal.contents) }
     {
         match self.voter.journal().certificates().get(i) {
-            Some(kept) => decoded(alloc, kept.certificate()),
+            Some(kept) => match decoded_of(alloc, kept.round(), kept.certificate()) {
+                Ok(certificate) => Ok(certificate),
+                Err(fault) => Err(fault),
+            },
             None => Err(StartFault::Malformed),
         }
     }
 }
 
-// The certificate that bytes are.
-fn decoded<C: OwnedCodec, D: Digest + Codec>(
+// The certificate of a round that bytes are.
+fn decoded_of<C: OwnedCodec, D: Digest + Codec>(
     alloc: Global,
+    round: Round,
     bytes: &[u8],
 ) -> Result<Certificate<C, D>, StartFault>
-    ensures { IfOk result (λ c. whole (versioned (certificate_format C.format D.format)) bytes.now
-        ≡ Ok c) }
+    ensures whole { IfOk result (λ c. whole (versioned (certificate_format C.format D.format))
+        bytes.now ≡ Ok c) }
+    ensures bytes { IfOk result (λ c. bytes.now
+        ≡ (versioned (certificate_format C.format D.format)).encoding c) }
+    ensures round { IfOk result (λ c. round_in (subject_certified c) ≡ round) }
 {
-    match decode_owned(alloc, bytes) {
-        Ok(certificate) => Ok(certificate),
+    match decode_owned::<Certificate<C, D>>(alloc, bytes) {
+        Ok(certificate) => {
+            // The voter has looked at its round.
+            if certificate.round() != round {
+                drop(certificate);
+                return Err(StartFault::Malformed);
+            }
+            Ok(certificate)
+        }
         Err(DecodeError::OutOfMemory) => Err(StartFault::OutOfMemory),
         Err(DecodeError::Fault(_)) => Err(StartFault::Malformed),
     }

@@ -119,6 +119,16 @@ impl<C: Drop, D: Digest> Shelf<C, D> {
         find(&self.certificates, kind, round)
     }
 
+    /// The one that waits to be kept for the disk.
+    pub(crate) fn waiting(&self, waits: Option<Subject<D>>) -> Option<&Certificate<C, D>> {
+        match waits {
+            Some(Subject::Notarize { proposal }) => self.get(Kind::Notarization, proposal.round),
+            Some(Subject::Nullify { round }) => self.get(Kind::Nullification, round),
+            Some(Subject::Finalize { proposal }) => self.get(Kind::Finalization, proposal.round),
+            None => None,
+        }
+    }
+
     /// The next one was given.
     pub(crate) fn note_handed(&mut self)
         requires { self.old.handed < length self.old.certificates }

@@ -6,7 +6,7 @@ ghost use Rattle.batcher_bytes.specs.Encodings.{proof_format, signature_format};
 ghost use Rattle.batcher_bytes.specs.Keys.{same_digest};
 ghost use Rattle.batcher_bytes.specs.Messages.{certificate_format, sha256_format, vote_format};
 ghost use Rattle.batcher_journal.specs.Causes.{Cause};
-ghost use Rattle.batcher_validator.specs.Disks.{disk_of};
+ghost use Rattle.batcher_validator.specs.Disks.{disk_of, under_way_of};
 ghost use Rattle.batcher_journal.specs.Text.{IsText, fields_of};
 ghost use Rattle.batcher_journal.specs.declared.journal.OpenFault.{OpenFault as TheOpenFault};
 ghost use Rattle.batcher_journal.specs.Ready.{begun};
@@ -51,7 +51,8 @@ impl<T: Truth> Loop<T> {
         ensures running { IfOk result (λ it. HasBegun
             (⟦<Signed<T, true> as NodeConfigs<Sha256Digest>>⟧.of it.validator.voter.node)
             (certificate_format proof_format sha256_format) [] it.validator) }
-        ensures on_disk { IfOk result (λ it. disk_of it.validator ≡ []) }
+        ensures on_disk { IfOk result (λ it. (disk_of it.validator ≡ [])
+            × (under_way_of it.validator ≡ None)) }
         ensures journal { IfOk result (λ it. it.validator.voter.journal.contents
             ≡ begun (fields_of owner.now) (numbered epoch 0) []) }
         ensures scheme { IfOk result (λ it. it.validator.voter.node.scheme ≡ scheme.value) }
@@ -95,7 +96,8 @@ impl<T: Truth> Loop<T> {
         ensures cause { (fault : TheOpenFault) → result ≡ Err (LoopFault.NotOpened fault) → Cause
             (vote_format signature_format sha256_format) bytes.items (fields_of owner.now)
             same_digest fault }
-        ensures on_disk { IfOk result (λ it. disk_of it.validator ≡ bytes.items) }
+        ensures on_disk { IfOk result (λ it. (disk_of it.validator ≡ bytes.items)
+            × (under_way_of it.validator ≡ None)) }
         ensures scheme { IfOk result (λ it. it.validator.voter.node.scheme ≡ scheme.value) }
         ensures text { IfOk result (λ it. IsText (vote_format signature_format sha256_format)
             bytes.items it.validator.voter.journal.contents) }
@@ -137,7 +139,7 @@ impl<T: Truth> Loop<T> {
         ensures cause { (fault : TheOpenFault) → result ≡ Err (LoopFault.NotOpened fault) → Cause
             (vote_format signature_format sha256_format) log.bytes (fields_of owner.now)
             same_digest fault }
-        ensures on_disk { IfOk result (λ it. disk_of it.validator ≡ log.copy) }
+        ensures on_disk { IfOk result (λ it. it.validator.voter.journal.log.copy ≡ log.copy) }
         ensures scheme { IfOk result (λ it. it.validator.voter.node.scheme ≡ scheme.value) }
         ensures epoch { IfOk result (λ it. it.validator.voter.node.epoch
             ≡ it.validator.voter.journal.contents.floor.epoch) }

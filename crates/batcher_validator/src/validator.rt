@@ -1,18 +1,20 @@
 //! A validator: a voter, with what it gave to be done.
 
 ghost use Rattle.std.specs.Prelude.{◌≡◌, ◌≤◌, ◌<◌, ◌⊎◌, ◌^◌, [], All, false, Contains, IfErr, IfOk};
-ghost use Rattle.std.specs.Prelude.{IfSome, None, length};
+ghost use Rattle.std.specs.Prelude.{IfSome, None, length, take};
 ghost use Rattle.batcher_agreement.specs.Policy.{Conduct, KeepsPolicy};
 ghost use Rattle.batcher_bytes.specs.Messages.{certificate_format};
 ghost use Rattle.batcher_validator.specs.Queues.{HasKey};
 ghost use Rattle.batcher_validator.specs.Running.{HasBegun};
 ghost use Rattle.batcher_validator.specs.Shelves.{kind_and_round};
+ghost use Rattle.batcher_validator.specs.Unsigned.{nothing_unsigned};
 ghost use Rattle.batcher_voter.specs.Remembering.{Remembers};
 ghost use Rattle.batcher_voter.specs.Reopening.{IsFinalView, IsTakenIn};
 
 use crate::shelf::Shelf;
 use crate::tally::Tally;
-use batcher::messages::{Certificate, Digest, Identical, Kind, Proposal, Subject};
+use crate::unsigned::Unsigned;
+use batcher::messages::{Certificate, Digest, Identical, Kind, Proposal, Subject, Vote};
 use batcher::positions::{Participant, Round};
 use batcher::scheme::Scheme;
 use batcher_bytes::{Codec, Log, OwnedCodec};
@@ -28,8 +30,10 @@ use std::rc::Rc;
 pub(crate) struct Intent<D: Digest> {
     // As whom it votes.
     pub(crate) me: Participant,
-    // What was given to be signed, last of all.
+    // What was given to be signed, last of all, since all was to be sent again.
     pub(crate) signing: Option<Subject<D>>,
+    // Which signatures were refused since then.
+    pub(crate) unsigned: Unsigned,
     // The highest view whose time is over, or 0.
     pub(crate) expired: u64,
     // The proposal of the highest view that is its own, or valid.
@@ -46,6 +50,7 @@ impl<D: Digest> Model for Intent<D> {
     ghost view = { λ i. record {
       me = i.me;
       signing = i.signing;
+      unsigned = i.unsigned;
       expired = i.expired;
       chosen = i.chosen;
       posed = i.posed;
@@ -93,6 +98,7 @@ impl<D: Digest> Model for Given<D> {
 pub struct Validator<S: Scheme<D>, D: Digest + Codec, L: Log>
 where
     S::Signature: Codec,
+    S::Certificate: OwnedCodec,
 {
     pub(crate) voter: Voter<S, D, L>,
     pub(crate) given: Given<D>,
@@ -102,6 +108,7 @@ where
 impl<S: Scheme<D>, D: Digest + Codec, L: Log> Model for Validator<S, D, L>
 where
     S::Signature: Codec,
+    S::Certificate: OwnedCodec,
 {
     ghost use Rattle.std.specs.Prelude.{◌≡◌, ◌<◌, ◌^◌, length};
     ghost use Rattle.batcher_validator.specs.Running.{ValidatorView};
@@ -202,7 +209,14 @@ where
           asked = 0;
           verifying = false;
           forwarding = None;
-          intent = record { me = me; signing = None; expired = 0; chosen = None; posed = 0 };
+          intent = record {
+            me = me;
+            signing = None;
+            unsigned = nothing_unsigned;
+            expired = 0;
+            chosen = None;
+            posed = 0;
+          };
         } }
         ensures empty { result.shelf.certificates ≡ [] }
         ensures handed { result.shelf.handed ≡ 0 }
@@ -224,6 +238,7 @@ where
                 intent: Intent {
                     me,
                     signing: None,
+                    unsigned: Unsigned::nothing(),
                     expired: 0,
                     chosen: None,
                     posed: 0,
@@ -254,6 +269,20 @@ where
         let Validator { voter, shelf, .. } = self;
         drop(shelf);
         voter
+    }
+
+    /// The votes of earlier lives that its journal has, in the order in which they were written. So
+    /// they are on the disk.
+    pub fn earlier_votes(&self) -> &[Vote<S::Signature, D>]
+        ensures { result.now
+            ≡ take self.now.given.tally.begun self.now.voter.journal.contents.votes }
+    {
+        let votes = self.voter.journal().votes();
+        let begun = self.given.tally.begun;
+        if begun < votes.len() {
+            return &votes[..begun];
+        }
+        votes
     }
 
     /// The certificates that it keeps, in the order in which they came: of views from the final one

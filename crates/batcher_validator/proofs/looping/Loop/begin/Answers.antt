@@ -1,5 +1,5 @@
 use Rattle.batcher_validator.proofs.Words.{◌≡◌, ◌∙◌, [], ap, arith, rules, Contains, Sha256Digest, Vote, Signature, begun, Contents, fields_of, numbered}
-use Rattle.batcher_validator.proofs.Words.{Remembers}
+use Rattle.batcher_validator.proofs.Words.{CopyView, None, Remembers}
 use Rattle.batcher_validator.proofs.looping.Loop.begin.Goals as goal
 
 none_there : {vote : Vote Signature Sha256Digest} → Contains [] vote → ⊥
@@ -32,4 +32,7 @@ returns-in-Ok-of-clause-epoch g c =
 
 pub returns-in-Ok-of-clause-on_disk : goal.returns-in-Ok-of-clause-on_disk
 returns-in-Ok-of-clause-on_disk g c =
-    c.in-Ok-of.ensures.on_disk ∙ c.in-Ok.ensures.copied [] c.new-log.ensures.copy
+    let nothing : CopyView = record { lasting = []; under_way = None } in
+    let same : c.in-Ok-of.it.validator.voter.journal.log.copy ≡ nothing =
+    c.in-Ok-of.ensures.on_disk ∙ c.in-Ok.ensures.copied nothing c.new-log.ensures.copy in
+    (ap (λ k. k.lasting) same, ap (λ k. k.under_way) same)

@@ -1,16 +1,23 @@
-use Rattle.batcher_validator.proofs.Words.{◌≡◌, refl, subst, sym, true, certifies_itself, node_config, took}
-use Rattle.batcher_validator.proofs.Going.{runs_roomy, takes_in}
+use Rattle.batcher_validator.proofs.Words.{◌≡◌, subst, sym, true, certifies_itself, node_config}
+use Rattle.batcher_validator.proofs.Going.{stays_roomy, takes_roomy}
 use Rattle.batcher_validator.proofs.validator.Validator.catch_up.Goals as goal
 
-pub returns-in-Ok-clause-took : goal.returns-in-Ok-clause-took
-returns-in-Ok-clause-took g c = λ yes.
-    let roomy = c.make_room.new.self in
-    runs_roomy (node_config g.S.Scheme.meaning g.S.PublicKey.Ord.cmp g.S.Signature.PartialEq.eq g.D.PartialEq.eq)
-    c.args.self.now roomy c.shelve.new.self
+pub catch_up_with_room-requires-clause-certifies : goal.catch_up_with_room-requires-clause-certifies
+catch_up_with_room-requires-clause-certifies g c =
+    subst (λ v. certifies_itself (g.S.Scheme.meaning v.node.scheme) c.args.certificate ≡ true)
+    (sym c.make_room.ensures.voter) (sym c.if-not-verifies.ensures)
+
+pub returns-in-Ok-catch_up_with_room-clause-took : goal.returns-in-Ok-catch_up_with_room-clause-took
+returns-in-Ok-catch_up_with_room-clause-took g c = λ yes.
+    takes_roomy (node_config g.S.Scheme.meaning g.S.PublicKey.Ord.cmp g.S.Signature.PartialEq.eq g.D.PartialEq.eq)
+    c.args.self.now c.make_room.new.self c.catch_up_with_room.new.self c.args.certificate
     c.make_room.ensures.voter c.make_room.ensures.given c.make_room.ensures.certificates
-    c.make_room.ensures.handed (took c.args.certificate)
-    (takes_in (node_config g.S.Scheme.meaning g.S.PublicKey.Ord.cmp g.S.Signature.PartialEq.eq
-    g.D.PartialEq.eq roomy.voter.node) roomy c.shelve.new.self c.args.certificate refl
-    (subst (λ v. certifies_itself (g.S.Scheme.meaning v.node.scheme) c.args.certificate ≡ true)
-    (sym c.make_room.ensures.voter) (sym c.if-not-verifies.ensures))
-    c.shelve.ensures.voter c.shelve.ensures.given c.shelve.ensures.handed c.shelve.ensures.shelves)
+    c.make_room.ensures.handed c.in-Ok-catch_up_with_room.ensures.took
+
+pub returns-in-Err-catch_up_with_room-clause-stays :
+    goal.returns-in-Err-catch_up_with_room-clause-stays
+returns-in-Err-catch_up_with_room-clause-stays g c =
+    stays_roomy (node_config g.S.Scheme.meaning g.S.PublicKey.Ord.cmp g.S.Signature.PartialEq.eq g.D.PartialEq.eq)
+    c.args.self.now c.make_room.new.self c.catch_up_with_room.new.self
+    c.make_room.ensures.voter c.make_room.ensures.given c.make_room.ensures.certificates
+    c.make_room.ensures.handed c.in-Err-catch_up_with_room.ensures.stays

@@ -1,5 +1,5 @@
 use Rattle.batcher_validator.proofs.Words.{refl}
-use Rattle.batcher_validator.proofs.Choosing.{judges, proposes, signs}
+use Rattle.batcher_validator.proofs.Choosing.{signs}
 use Rattle.batcher_validator.proofs.validator.Validator.pose.Goals as goal
 
 pub returns-in-Some-clause-gives : goal.returns-in-Some-clause-gives
@@ -8,20 +8,3 @@ returns-in-Some-clause-gives g c = λ past earlier is.
     signs _ c.args.self.now c.note_signing.new.self _ c.note_signing.ensures.given
     c.note_signing.ensures.voter c.note_signing.ensures.shelf past earlier is c.in-Some.subject refl
     (it.0, (it.1, c.in-Some.ensures.alone past earlier is))
-
-pub returns-in-Some-next_to_propose-clause-gives :
-    goal.returns-in-Some-next_to_propose-clause-gives
-returns-in-Some-next_to_propose-clause-gives g c = λ past earlier is.
-    let it = c.in-Some-next_to_propose.ensures in
-    proposes _ c.args.self.now c.note_posed.new.self _ c.note_posed.ensures.given
-    c.note_posed.ensures.voter c.note_posed.ensures.shelf past earlier is
-    c.in-Some-next_to_propose.view c.in-Some-next_to_propose.parent refl
-    (it.open past earlier is, (it.leads past earlier is, (it.first past earlier is, it.grounds past earlier is)))
-
-pub returns-in-Some-next_to_judge-clause-gives : goal.returns-in-Some-next_to_judge-clause-gives
-returns-in-Some-next_to_judge-clause-gives g c = λ past earlier is.
-    let it = c.in-Some-next_to_judge.ensures in
-    judges _ c.args.self.now c.note_posed-in-Some-next_to_judge.new.self _ c.note_posed-in-Some-next_to_judge.ensures.given
-    c.note_posed-in-Some-next_to_judge.ensures.voter c.note_posed-in-Some-next_to_judge.ensures.shelf past earlier is
-    c.in-Some-next_to_judge.proposal refl
-    (it.open past earlier is, (it.proposed past earlier is, it.may_vote past earlier is))

@@ -1,5 +1,6 @@
-use Rattle.batcher_validator.proofs.Words.{Ok, ap, certificate_format, node_config}
+use Rattle.batcher_validator.proofs.Words.{IfSome, Ok, ap, subst, certificate_format, node_config}
 use Rattle.batcher_validator.proofs.Reading.{recalls_none, recalls_one, same_decoded}
+use Rattle.batcher_voter.specs.Keeping.{HasOnDisk}
 use Rattle.batcher_validator.proofs.validator.Validator.recall_floor.Goals as goal
 
 pub returns-in-Ok-clause-recalls : goal.returns-in-Ok-clause-recalls
@@ -16,3 +17,8 @@ returns-in-Ok-None-clause-recalls g c =
     let old = c.args.self.now in
     recalls_none (node_config g.S.Scheme.meaning g.S.PublicKey.Ord.cmp g.S.Signature.PartialEq.eq g.D.PartialEq.eq
     old.voter.node) _ old (c.in-Ok-None.ensures.none (ap Ok c.in-Ok-None.field-0-is))
+
+pub recall_one-requires : goal.recall_one-requires
+recall_one-requires g c =
+    subst (λ o. IfSome o (HasOnDisk (certificate_format g.S.Certificate.OwnedCodec.format g.D.Codec.format)
+    c.args.self.now.voter.journal.contents)) c.in-Ok-Some.field-0-is c.in-Ok-Some.ensures.there

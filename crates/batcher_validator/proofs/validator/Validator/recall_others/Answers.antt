@@ -1,5 +1,6 @@
 use Rattle.batcher_validator.proofs.Words.{◌∙◌, refl, subst, certificate_format, node_config, IsAtPlace, Recalls}
 use Rattle.batcher_validator.proofs.Reading.{bytes_more, none_at_first, recalls_both, recalls_none}
+use Rattle.batcher_voter.proofs.Reopening.{stays_both}
 use Rattle.batcher_validator.proofs.validator.Validator.recall_others.Goals as goal
 
 pub loop-i-init : goal.loop-i-init
@@ -8,7 +9,17 @@ loop-i-init g c = (
       c.args.self.now.voter.node) _ c.args.self.now
       (none_at_first (certificate_format g.S.Certificate.OwnedCodec.format g.D.Codec.format)
       c.args.self.now.voter.journal.contents.certificates),
-  refl,
+  (
+    refl,
+    (
+      refl,
+      record {
+        notarized = λ view known. known;
+        nullified = λ view known. known;
+        finalized = λ view known. known;
+      },
+    ),
+  ),
 )
 
 pub loop-i-preserved : goal.loop-i-preserved
@@ -18,8 +29,17 @@ loop-i-preserved g c =
     let first = c.args.self.now in
     let before = c.loop-i.invariant in (
       recalls_both (config first.voter.node) _ _ _ first c.loop-i.self c.recall_at.new.self before.0
-          (subst (λ v. Recalls (config v.node) (IsAtPlace format v.journal.contents.certificates c.loop-i.i)
-          c.loop-i.self c.recall_at.new.self) before.1 c.in-Ok.ensures.recalls)
+          (subst (λ n. Recalls (config n) (IsAtPlace format first.voter.journal.contents.certificates c.loop-i.i)
+          c.loop-i.self c.recall_at.new.self) before.1.0
+          (subst (λ j. Recalls (config c.loop-i.self.voter.node) (IsAtPlace format j.contents.certificates c.loop-i.i)
+          c.loop-i.self c.recall_at.new.self) before.1.1.0 c.in-Ok.ensures.recalls))
           (bytes_more format first.voter.journal.contents.certificates c.loop-i.i),
-      c.recall_at.ensures.voter ∙ before.1,
+      (
+        c.recall_at.ensures.node ∙ before.1.0,
+        (
+          c.recall_at.ensures.journal ∙ before.1.1.0,
+          stays_both first.voter.knowledge c.loop-i.self.voter.knowledge c.recall_at.new.self.voter.knowledge
+              before.1.1.1 c.in-Ok.ensures.knows,
+        ),
+      ),
     )

@@ -1,6 +1,7 @@
 use Rattle.batcher_validator.proofs.Words.{◌≡◌, ◌∙◌, ◌⊎◌, All, ap, length, subst, sym, certificate_format, JournalView, node_config, IsFinalView, IsTakenIn}
 use Rattle.batcher_validator.proofs.Words.{HasStarted}
 use Rattle.batcher_validator.proofs.Beginning.{begun, has_begun, none_resized}
+use Rattle.batcher_voter.proofs.Reopening.{all_taken_in, final_stays}
 use Rattle.batcher_validator.proofs.validator.Validator.start.Goals as goal
 
 pub returns-in-Ok-recall-clause-running : goal.returns-in-Ok-recall-clause-running
@@ -23,16 +24,23 @@ returns-in-Ok-recall-clause-running g c = λ earlier keeps has.
     (none_resized _ _ c.new-blocked.result.items c.resize.new.self.items c.new-blocked.ensures.items
     c.in-Ok.ensures.items)
     c.of-validator.ensures.given c.of-validator.ensures.empty c.of-validator.ensures.handed started)
-    c.in-Ok-recall.ensures.recalls c.recall.ensures.voter
+    c.in-Ok-recall.ensures.recalls c.recall.ensures.node c.recall.ensures.journal
 
 pub returns-in-Ok-recall-clause-knows_floor : goal.returns-in-Ok-recall-clause-knows_floor
 returns-in-Ok-recall-clause-knows_floor g c =
     let view = c.args.journal.contents.floor.view.0 in
-    subst (λ v. (view ≡ 0) ⊎ IsFinalView v.knowledge view)
-    (sym (c.recall.ensures.voter ∙ c.of-validator.ensures.voter)) c.in-Ok-start.ensures.knows_floor
+    final_stays _ _ c.in-Ok-recall.ensures.knows view
+    (subst (λ v. (view ≡ 0) ⊎ IsFinalView v.knowledge view)
+    (sym c.of-validator.ensures.voter) c.in-Ok-start.ensures.knows_floor)
 
 pub returns-in-Ok-recall-clause-knows_kept : goal.returns-in-Ok-recall-clause-knows_kept
 returns-in-Ok-recall-clause-knows_kept g c =
-    subst (λ v. All (IsTakenIn (certificate_format g.S.Certificate.OwnedCodec.format g.D.Codec.format)
-    v.node.epoch v.knowledge) c.args.journal.contents.certificates)
-    (sym (c.recall.ensures.voter ∙ c.of-validator.ensures.voter)) c.in-Ok-start.ensures.knows_kept
+    let format = certificate_format g.S.Certificate.OwnedCodec.format g.D.Codec.format in
+    let first = c.of-validator.result in
+    let new = c.recall.new.self in
+    subst (λ n. All (IsTakenIn format n.epoch new.voter.knowledge) c.args.journal.contents.certificates)
+    (sym c.recall.ensures.node)
+    (all_taken_in format first.voter.node.epoch first.voter.knowledge new.voter.knowledge
+    c.in-Ok-recall.ensures.knows c.args.journal.contents.certificates
+    (subst (λ v. All (IsTakenIn format v.node.epoch v.knowledge) c.args.journal.contents.certificates)
+    (sym c.of-validator.ensures.voter) c.in-Ok-start.ensures.knows_kept))

@@ -1,6 +1,0 @@
-use Rattle.batcher_validator.proofs.Words.{◌≡◌, map, take}
-use Rattle.batcher_validator.proofs.tests.verdicts_on.Given as goal
-
-abbrev pub invariant-loop-attestation : goal.invariant-loop-attestation
-invariant-loop-attestation g l =
-    l.verdicts.items ≡ map ((g.S.Scheme.meaning l.scheme).attests l.subject) (take l.attestation-index l.list)
