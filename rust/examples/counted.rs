@@ -125,14 +125,15 @@ fn play_loop<const BYTES: usize>(views: u64, participants: u32) {
             .expect("it goes on")
         {
             Task::Write(write) => {
-                black_box(write);
-                validator.wrote();
+                validator
+                    .wrote(black_box(write))
+                    .expect("it is of this one");
             }
             Task::Sign(subject) => {
                 let own = vote::<BYTES>(0, subject);
                 let signature = &own.attestation().signature;
                 validator
-                    .signed(subject, signature)
+                    .signed(subject, signature, |_| vec![true])
                     .expect("memory is there");
             }
             Task::Propose { view, parent } => {

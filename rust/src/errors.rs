@@ -173,11 +173,24 @@ some_of! {
 }
 
 some_of! {
-    /// Why a validator doesn't take in a vote, verdicts or a signature.
+    /// Why a validator doesn't take in a vote or verdicts.
     VoteError:
     /// Memory was refused. The same call may succeed later.
     OutOfMemory,
     /// The bytes of a signature are more than 96, or the scheme doesn't make the same signature of
+    /// them again.
+    SignatureBytes
+}
+
+some_of! {
+    /// Why a validator doesn't take in a signature of its own. But for memory, nothing is written,
+    /// and the same is given to be signed again once a time is over.
+    SignError:
+    /// Memory was refused. The same call may succeed later.
+    OutOfMemory,
+    /// It doesn't attest, as the verifier says.
+    NotVerified,
+    /// The bytes of the signature are more than 96, or the scheme doesn't make the same signature of
     /// them again.
     SignatureBytes
 }
@@ -293,7 +306,7 @@ macro_rules! is_met_in {
     };
 }
 
-is_met_in!(RoundError, OwnError, ConstructError);
+is_met_in!(SignError, RoundError, OwnError, ConstructError);
 
 /// An error that memory may be refused.
 macro_rules! takes_memory {
@@ -306,4 +319,4 @@ macro_rules! takes_memory {
     };
 }
 
-takes_memory!(VoteError, RoundError, ConstructError);
+takes_memory!(VoteError, SignError, RoundError, ConstructError);

@@ -1,12 +1,13 @@
-//! The one module with `unsafe`: the declarations of `include/batcher.h`, safe calls over them, and
-//! the heap that the static library takes its memory from. `tools/header` compares the declarations
-//! with the header.
+//! The one module with `unsafe`: the declarations of `include/batcher.h`, safe calls over them, the
+//! heap that the static library takes its memory from, and a lock of files. `tools/header` compares
+//! the declarations with the header.
 
 use std::alloc::{Layout, alloc, dealloc, realloc};
 use std::ffi::c_void;
 use std::ptr;
 
 pub(crate) mod files;
+pub(crate) mod lock;
 pub(crate) mod loops;
 
 /// The numbers of the header: answers of calls, kinds, modes, block reasons, causes, reports,
@@ -46,6 +47,8 @@ pub(crate) mod code {
     pub(crate) const OTHER_OWNER: u8 = 30;
     pub(crate) const DAMAGED: u8 = 31;
     pub(crate) const UNFINISHED: u8 = 32;
+    pub(crate) const NOT_WRITTEN: u8 = 33;
+    pub(crate) const NOT_GIVEN: u8 = 34;
     pub(crate) const NOTARIZATION: u8 = 0;
     pub(crate) const NULLIFICATION: u8 = 1;
     pub(crate) const FINALIZATION: u8 = 2;
@@ -183,7 +186,7 @@ pub(crate) struct Round {
 // No function here unwinds: Rattle has no panics. A slice is a pointer and its length.
 unsafe extern "C" {
     /// Its name has the version of the header, so a library of another one doesn't link.
-    safe fn batcher_abi_4();
+    safe fn batcher_abi_5();
 
     fn batcher_round_new(round: *mut RoundHandle, options: *const RoundOptions) -> u8;
     fn batcher_round_free(round: *mut RoundHandle);
@@ -310,7 +313,7 @@ impl Round {
             at: ptr::null_mut(),
         };
         let mut round = Round { handle };
-        batcher_abi_4();
+        batcher_abi_5();
         // SAFETY: as above; an empty handle is a null pointer.
         match unsafe { batcher_round_new(&mut round.handle, options) } {
             code::DONE => Ok(round),

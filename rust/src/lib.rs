@@ -88,7 +88,7 @@ extern crate self as batcher;
 pub use answers::{Admission, Batch, BlockReason, Mode, Outcome, OwnFault};
 pub use errors::Error;
 pub use evidence::convicted;
-pub use files::Files;
+pub use files::{Files, NewFiles, Opened};
 pub use looping::Loop;
 pub use messages::{
     Activity, Attestation, Certificate, Finalization, Finalize, Kind, Notarization, Notarize,

@@ -10,7 +10,7 @@
 //!
 //! ```
 //! # include!(concat!(env!("CARGO_MANIFEST_DIR"), "/tests/toy/mod.rs"));
-//! use batcher::looping::{Loop, Options, Task};
+//! use batcher::looping::{Loop, Options, Task, Wanted};
 //! use batcher::{Epoch, Participant, Sha256Digest, View};
 //! # fn main() -> Result<(), Box<dyn std::error::Error>> {
 //! let options = Options {
@@ -23,26 +23,29 @@
 //!     track_historical_votes: false,
 //! };
 //! let leader = |_: View| Participant::new(0);
+//! // Which of the attestations attest, one verdict for each.
+//! let verify = |wanted: &Wanted<Signature>| -> Vec<bool> {
+//!     let all = wanted.attestations().iter();
+//!     all.map(|it| attests(wanted.subject(), it)).collect()
+//! };
 //! let mut validator = Loop::<Signature>::begin(&options, leader)?;
 //! let mut disk = Vec::new();
 //! let mut last = View::zero();
 //! while last < View::new(3) {
 //!     match validator.poll()?.expect("it is alone, and goes on") {
 //!         Task::Write(write) => {
-//!             if write.replaces {
+//!             if write.replaces() {
 //!                 disk.clear();
 //!             }
-//!             disk.extend_from_slice(&write.bytes);
-//!             validator.wrote();
+//!             disk.extend_from_slice(write.bytes());
+//!             validator.wrote(write)?;
 //!         }
 //!         Task::Propose { view, parent } => {
 //!             validator.propose(view, parent, Sha256Digest([view.get() as u8; 32]));
 //!         }
-//!         Task::Sign(subject) => validator.signed(subject, &sign(&subject, 0))?,
+//!         Task::Sign(subject) => validator.signed(subject, &sign(&subject, 0), verify)?,
 //!         Task::Verify(wanted) => {
-//!             let attests = |it: &_| attests(wanted.subject(), it);
-//!             let verdicts: Vec<bool> = wanted.attestations().iter().map(attests).collect();
-//!             validator.conclude(&wanted, &verdicts)?;
+//!             validator.conclude(&wanted, &verify(&wanted))?;
 //!         }
 //!         Task::Final(proposal) => last = proposal.round.view,
 //!         // Nobody else is there, and no view takes too long.
@@ -50,8 +53,8 @@
 //!         other => unreachable!("nobody else is there, and there is {other:?}"),
 //!     }
 //! }
-//! // What is on its disk is all that it takes to go on.
-//! let mut again = Loop::<Signature>::start(&options, leader, &disk)?;
+//! // What is on its disk is all that it takes to go on. It is verified first.
+//! let mut again = Loop::start(&options, leader, &disk, verify)?;
 //! assert!(again.poll()?.is_some());
 //! # Ok(())
 //! # }
@@ -59,7 +62,7 @@
 
 use crate::answers::{Admission, BlockReason};
 use crate::construct::{ONE_EACH, attestations_of, reserve, reserve_each};
-use crate::errors::{OutOfMemory, VoteError, unknown};
+use crate::errors::{OutOfMemory, SignError, VoteError, unknown};
 use crate::ffi::{self, code, loops};
 use crate::flat::{
     block_of, flat_attestation, flat_proposal, flat_round, flat_subject, flat_vote, kind_code,
@@ -70,6 +73,7 @@ use crate::positions::{Epoch, Participant, Round, View, quorum};
 use std::collections::VecDeque;
 use std::fmt;
 use std::marker::PhantomData;
+use std::sync::atomic::{AtomicU64, Ordering};
 
 /// What a validator is made of.
 #[derive(Clone, Copy, Debug)]
@@ -108,6 +112,9 @@ pub enum StartError {
     OtherOwner,
     /// What is on the disk is no journal, or has what no validator wrote.
     Damaged,
+    /// A signature on the disk doesn't attest, as the verifier says: one of its own votes, or one of
+    /// a certificate.
+    NotVerified,
 }
 
 impl fmt::Display for StartError {
@@ -119,11 +126,28 @@ impl fmt::Display for StartError {
             StartError::OtherVersion => f.write_str("the journal is of another version"),
             StartError::OtherOwner => f.write_str("the journal is somebody else's"),
             StartError::Damaged => f.write_str("the disk has no journal"),
+            StartError::NotVerified => f.write_str("a signature on the disk doesn't attest"),
         }
     }
 }
 
 impl std::error::Error for StartError {}
+
+impl From<OutOfMemory> for StartError {
+    fn from(_: OutOfMemory) -> Self {
+        StartError::OutOfMemory
+    }
+}
+
+/// A signature that the scheme doesn't make of its bytes is one that doesn't attest.
+impl From<VoteError> for StartError {
+    fn from(error: VoteError) -> Self {
+        match error {
+            VoteError::OutOfMemory => StartError::OutOfMemory,
+            VoteError::SignatureBytes => StartError::NotVerified,
+        }
+    }
+}
 
 /// Why a validator doesn't say what is to be done.
 #[derive(Clone, Copy, Debug, PartialEq, Eq, Hash)]
@@ -156,6 +180,16 @@ impl From<VoteError> for PollError {
         match error {
             VoteError::OutOfMemory => PollError::OutOfMemory,
             VoteError::SignatureBytes => PollError::SignatureBytes,
+        }
+    }
+}
+
+impl From<KeptError> for PollError {
+    fn from(error: KeptError) -> Self {
+        match error {
+            KeptError::OutOfMemory => PollError::OutOfMemory,
+            // No task shows a certificate before.
+            KeptError::NotWritten => unknown(code::NOT_WRITTEN),
         }
     }
 }
@@ -263,13 +297,83 @@ impl fmt::Display for Progress {
     }
 }
 
-/// What is to be written to the disk.
-#[derive(Clone, Debug, PartialEq, Eq, Hash)]
+/// What is to be written to the disk, once. It may go to another thread.
+#[must_use = "the validator waits for it"]
+#[derive(Debug)]
 pub struct Write {
+    replaces: bool,
+    bytes: Vec<u8>,
+    /// Whose it is.
+    pub(crate) life: Life,
+    /// How many its validator has given before it.
+    pub(crate) number: u64,
+}
+
+impl Write {
     /// Whether the bytes take the place of all that are there. Else they come behind them.
-    pub replaces: bool,
+    pub fn replaces(&self) -> bool {
+        self.replaces
+    }
+
     /// The bytes. A crash leaves all of them, or none.
-    pub bytes: Vec<u8>,
+    pub fn bytes(&self) -> &[u8] {
+        &self.bytes
+    }
+}
+
+/// A write was given by another validator than the one that was told of it, as by one that has
+/// started again since.
+#[derive(Clone, Copy, Debug, PartialEq, Eq, Hash)]
+pub struct OtherLife;
+
+impl fmt::Display for OtherLife {
+    fn fmt(&self, f: &mut fmt::Formatter<'_>) -> fmt::Result {
+        f.write_str("another validator gave this to be written")
+    }
+}
+
+impl std::error::Error for OtherLife {}
+
+/// Why a certificate isn't shown.
+#[derive(Clone, Copy, Debug, PartialEq, Eq, Hash)]
+pub enum KeptError {
+    /// Memory was refused. The same call may succeed later.
+    OutOfMemory,
+    /// Something that the validator did isn't written yet, so the certificate may have a vote of its
+    /// own that the disk lacks. Ask again after [`Loop::wrote`].
+    NotWritten,
+}
+
+impl fmt::Display for KeptError {
+    fn fmt(&self, f: &mut fmt::Formatter<'_>) -> fmt::Result {
+        match self {
+            KeptError::OutOfMemory => f.write_str("out of memory"),
+            KeptError::NotWritten => f.write_str("not written yet"),
+        }
+    }
+}
+
+impl std::error::Error for KeptError {}
+
+impl From<OutOfMemory> for KeptError {
+    fn from(_: OutOfMemory) -> Self {
+        KeptError::OutOfMemory
+    }
+}
+
+/// One of the validators that this program has made, and whether it began.
+#[derive(Clone, Copy, Debug, PartialEq, Eq, Hash)]
+pub(crate) struct Life {
+    number: u64,
+    pub(crate) begins: bool,
+}
+
+impl Life {
+    fn next(begins: bool) -> Self {
+        static LIVES: AtomicU64 = AtomicU64::new(0);
+        let number = LIVES.fetch_add(1, Ordering::Relaxed);
+        Life { number, begins }
+    }
 }
 
 /// Attestations of one subject, on each of which a verdict is wanted. It is plain data: it may go
@@ -303,9 +407,10 @@ pub type Listed = Certificate<Vec<u8>>;
 
 /// What is to be done. Each is given once.
 #[must_use = "it isn't given again"]
-#[derive(Clone, Debug)]
+#[derive(Debug)]
 pub enum Task<G> {
-    /// Write this to the disk, and say so by [`Loop::wrote`]. Nothing else is given before.
+    /// Write this to the disk, and say so by [`Loop::wrote`] once it lasts. Before that no other
+    /// write is given, nothing is given to be sent or signed, and nothing is final.
     Write(Write),
     /// Block this participant: drop what it sends, and close its connection.
     Block(Participant, Cause),
@@ -340,7 +445,8 @@ pub enum Task<G> {
 /// What it does is the proved library's. It stays on the thread on which it was made.
 pub struct Loop<G> {
     library: loops::Loop,
-    leader: Box<dyn Fn(View) -> Participant>,
+    pub(crate) life: Life,
+    leader: Box<dyn Leads>,
     epoch: Epoch,
     me: Participant,
     participants: u32,
@@ -365,12 +471,16 @@ pub struct Loop<G> {
     last: View,
     // The last view that was entered.
     entered: View,
+    // How many writes were given.
+    writes: u64,
     signatures: PhantomData<G>,
 }
 
 impl<G: Clone + AsRef<[u8]> + for<'b> TryFrom<&'b [u8]>> Loop<G> {
     /// A validator of whose participant nothing was ever signed in the epoch. Its disk has no
-    /// bytes. `leader` says who leads each view, and always says the same.
+    /// bytes, and is a store in the place of [`Files`](crate::Files): by these it begins with
+    /// [`NewFiles::begin`](crate::NewFiles::begin) alone. `leader` says who leads each view, and
+    /// always says the same.
     ///
     /// Who lost the disk of a validator doesn't begin it again in the same epoch: it could sign what
     /// contradicts what it signed before.
@@ -387,15 +497,95 @@ impl<G: Clone + AsRef<[u8]> + for<'b> TryFrom<&'b [u8]>> Loop<G> {
 
     /// The validator whose disk has these bytes, all that it had written. It goes on from there.
     ///
+    /// Before that its own votes and its certificates are verified, which are sent again: `verify`
+    /// finds out which attest, one verdict for each. It is called for each vote and certificate.
+    ///
     /// # Errors
     ///
-    /// What is on the disk isn't this validator's, or memory is refused.
+    /// What is on the disk isn't this validator's, a signature there isn't good, or memory is
+    /// refused.
+    ///
+    /// # Panics
+    ///
+    /// Where there isn't one verdict for each.
     pub fn start(
         options: &Options,
         leader: impl Fn(View) -> Participant + 'static,
         disk: &[u8],
+        mut verify: impl FnMut(&Wanted<G>) -> Vec<bool>,
     ) -> Result<Self, StartError> {
-        Loop::of(options, leader, false, disk)
+        let started = Loop::of(options, leader, false, disk)?;
+        started.verify_votes(&mut verify)?;
+        started.verify_certificates(&mut verify)?;
+        Ok(started)
+    }
+
+    /// Has the own votes of the disk verified.
+    fn verify_votes(
+        &self,
+        verify: &mut impl FnMut(&Wanted<G>) -> Vec<bool>,
+    ) -> Result<(), StartError> {
+        let mut vote = ffi::Vote::default();
+        for place in 0.. {
+            match self.library.own_vote(place, &mut vote) {
+                code::DONE => {}
+                code::IDLE => break,
+                other => unknown(other),
+            }
+            let subject = subject_of(kind_of(vote.kind), &vote.proposal);
+            if !attest(&self.own(subject, &vote.attestation)?, &mut *verify) {
+                return Err(StartError::NotVerified);
+            }
+        }
+        Ok(())
+    }
+
+    /// Has the certificates of the disk verified.
+    fn verify_certificates(
+        &self,
+        verify: &mut impl FnMut(&Wanted<G>) -> Vec<bool>,
+    ) -> Result<(), StartError> {
+        for place in 0.. {
+            let Some(certificate) = self.held(place)? else {
+                break;
+            };
+            match self.attestations(&certificate)? {
+                Some(wanted) if attest(&wanted, &mut *verify) => {}
+                _ => return Err(StartError::NotVerified),
+            }
+        }
+        Ok(())
+    }
+
+    /// The certificate at a place of those that are kept.
+    fn held(&self, place: u64) -> Result<Option<Listed>, OutOfMemory> {
+        let (mut kind, mut flat, mut count) = (0, ffi::Proposal::default(), 0);
+        let mut bytes = Vec::new();
+        loop {
+            match self
+                .library
+                .held(place, &mut kind, &mut flat, &mut bytes, &mut count)
+            {
+                code::DONE => {
+                    let subject = subject_of(kind_of(kind), &flat);
+                    return Ok(Some(Certificate::new(subject, bytes)));
+                }
+                code::IDLE => return Ok(None),
+                code::SHORT => reserve_bytes(&mut bytes, count)?,
+                other => unknown(other),
+            }
+        }
+    }
+
+    /// An attestation of its own, to be verified.
+    fn own(&self, subject: Subject, flat: &ffi::Attestation) -> Result<Wanted<G>, VoteError> {
+        let attestations = attestations_of(std::slice::from_ref(flat))?;
+        let message = self.message(&subject)?;
+        Ok(Wanted {
+            subject,
+            message,
+            attestations,
+        })
     }
 
     fn of(
@@ -425,7 +615,8 @@ impl<G: Clone + AsRef<[u8]> + for<'b> TryFrom<&'b [u8]>> Loop<G> {
         namespace.extend_from_slice(options.namespace);
         Ok(Loop {
             library,
-            leader: Box::new(leader),
+            life: Life::next(begins),
+            leader: boxed(leader).map_err(|_| StartError::OutOfMemory)?,
             epoch: options.epoch,
             me: options.me,
             participants: options.participants,
@@ -441,11 +632,13 @@ impl<G: Clone + AsRef<[u8]> + for<'b> TryFrom<&'b [u8]>> Loop<G> {
             forged: Vec::new(),
             last: View::zero(),
             entered: View::zero(),
+            writes: 0,
             signatures: PhantomData,
         })
     }
 
-    /// What is to be done next. None where nothing is, until something comes.
+    /// What is to be done next. None where nothing is, until something comes: a message, an answer,
+    /// or the end of a write.
     ///
     /// # Errors
     ///
@@ -462,7 +655,7 @@ impl<G: Clone + AsRef<[u8]> + for<'b> TryFrom<&'b [u8]>> Loop<G> {
             if !self.waits {
                 match self.library.poll(&mut self.task) {
                     code::DONE => self.waits = true,
-                    code::WRITE => return Ok(Some(Task::Write(self.owed()?))),
+                    code::WRITE => return Ok(self.give()?.map(Task::Write)),
                     code::IDLE => return Ok(None),
                     code::OUT_OF_MEMORY => return Err(PollError::OutOfMemory),
                     code::FULL => return Err(PollError::Full),
@@ -470,12 +663,28 @@ impl<G: Clone + AsRef<[u8]> + for<'b> TryFrom<&'b [u8]>> Loop<G> {
                     other => unknown(other),
                 }
             }
+            if self.rests_on_a_write() {
+                return Ok(self.give()?.map(Task::Write));
+            }
             let task = self.handed_out()?;
             self.waits = false;
             if let Some(task) = task {
                 return Ok(Some(task));
             }
         }
+    }
+
+    /// Whether the task that waits shows a certificate, and something isn't written that was done
+    /// since it was given. Memory was refused for it then.
+    fn rests_on_a_write(&self) -> bool {
+        let flat = &self.task;
+        let shows = [code::TASK_SEND_CERTIFICATE, code::TASK_FORWARD].contains(&flat.task);
+        let (mut proposal, mut count) = (flat.proposal, 0);
+        let mut kept = || {
+            self.library
+                .kept(flat.kind, &mut proposal, &mut Vec::new(), &mut count)
+        };
+        shows && kept() == code::NOT_WRITTEN
     }
 
     /// The task that waits, unless it is done here.
@@ -499,7 +708,7 @@ impl<G: Clone + AsRef<[u8]> + for<'b> TryFrom<&'b [u8]>> Loop<G> {
                 self.last = proposal.round.view;
                 Task::Final(proposal)
             }
-            // It is on the disk since it was cast, so it attests.
+            // It was verified as this validator was started.
             code::TASK_CAST => match self.library.cast(&flat.vote, true) {
                 code::OUT_OF_MEMORY => return Err(PollError::OutOfMemory),
                 _ => return Ok(None),
@@ -514,7 +723,7 @@ impl<G: Clone + AsRef<[u8]> + for<'b> TryFrom<&'b [u8]>> Loop<G> {
             }
             code::TASK_ENTER => {
                 let view = View::new(flat.proposal.view);
-                let leader = (self.leader)(view);
+                let leader = self.leader.leader(view);
                 match self.library.enter(view.get(), leader.get()) {
                     code::OUT_OF_MEMORY => return Err(PollError::OutOfMemory),
                     _ => {
@@ -533,14 +742,14 @@ impl<G: Clone + AsRef<[u8]> + for<'b> TryFrom<&'b [u8]>> Loop<G> {
                 parent: View::new(flat.proposal.parent),
             },
             code::TASK_JUDGE => Task::Judge(proposal_of(&flat.proposal)),
-            code::TASK_FORWARD => return Ok(self.forward(round_of(&flat.proposal))?),
+            code::TASK_FORWARD => return self.forward(round_of(&flat.proposal)),
             other => unknown(other),
         }))
     }
 
     /// Who isn't in the notarization of a round, where this validator is in it. Else it may lack the
     /// payload itself.
-    fn forward(&self, round: Round) -> Result<Option<Task<G>>, OutOfMemory> {
+    fn forward(&self, round: Round) -> Result<Option<Task<G>>, PollError> {
         let Some(Certificate::Notarization(made)) = self.kept(Kind::Notarization, round)? else {
             return Ok(None);
         };
@@ -559,12 +768,25 @@ impl<G: Clone + AsRef<[u8]> + for<'b> TryFrom<&'b [u8]>> Loop<G> {
         Ok((has_it && !to.is_empty()).then_some(Task::Forward(made.proposal, to)))
     }
 
-    fn owed(&self) -> Result<Write, PollError> {
+    /// What is to be written, where no write is under way.
+    fn give(&mut self) -> Result<Option<Write>, PollError> {
         let (mut count, mut replaces) = (0, false);
-        let mut bytes = Vec::new();
+        let (mut bytes, number) = (Vec::new(), self.writes);
         loop {
-            match self.library.owed(&mut bytes, &mut count, &mut replaces) {
-                code::DONE => return Ok(Write { replaces, bytes }),
+            match self
+                .library
+                .give(number, &mut bytes, &mut count, &mut replaces)
+            {
+                code::DONE => {
+                    self.writes += 1;
+                    return Ok(Some(Write {
+                        replaces,
+                        bytes,
+                        life: self.life,
+                        number,
+                    }));
+                }
+                code::IDLE => return Ok(None),
                 code::SHORT => reserve_bytes(&mut bytes, count)?,
                 other => unknown(other),
             }
@@ -686,10 +908,21 @@ impl<G: Clone + AsRef<[u8]> + for<'b> TryFrom<&'b [u8]>> Loop<G> {
         Ok(())
     }
 
-    /// What was given to be written is written, so that a crash leaves it.
-    pub fn wrote(&mut self) {
-        let answer = self.library.wrote();
-        debug_assert_eq!(answer, code::DONE);
+    /// This is written, so that a crash leaves it, and so is no more: what came since it was given is
+    /// given next. Then poll. Where a write failed, start again by the disk.
+    ///
+    /// # Errors
+    ///
+    /// Another validator gave it, as before a start by the same disk. Nothing changes.
+    pub fn wrote(&mut self, write: Write) -> Result<(), OtherLife> {
+        if write.life != self.life {
+            return Err(OtherLife);
+        }
+        match self.library.wrote(write.number) {
+            code::DONE => Ok(()),
+            // It is the one that is under way, since there is no other, and it was there once.
+            other => unknown(other),
+        }
     }
 
     /// Takes in a vote that this participant sent, as the transport has authenticated it. Then
@@ -756,7 +989,7 @@ impl<G: Clone + AsRef<[u8]> + for<'b> TryFrom<&'b [u8]>> Loop<G> {
     /// [attestations](Loop::attestations) that it is made of attest, one verdict for each. It isn't
     /// called where the certificate isn't looked at. Then poll.
     ///
-    /// One from beyond the window is taken in too: by it a validator that fell behind goes on.
+    /// One from beyond the window is learned too: by it a validator that fell behind goes on.
     ///
     /// # Errors
     ///
@@ -787,12 +1020,7 @@ impl<G: Clone + AsRef<[u8]> + for<'b> TryFrom<&'b [u8]>> Loop<G> {
         reserve(&mut self.forged, 1)?;
         let subject = certificate.subject();
         let certifies = match self.attestations(certificate)? {
-            Some(wanted) => {
-                let verdicts = verify(&wanted);
-                let count = wanted.attestations.len();
-                assert_eq!(count, verdicts.len(), "{ONE_EACH}");
-                verdicts.iter().all(|attests| *attests)
-            }
+            Some(wanted) => attest(&wanted, verify),
             None => false,
         };
         match self.library.certificate(
@@ -873,19 +1101,62 @@ impl<G: Clone + AsRef<[u8]> + for<'b> TryFrom<&'b [u8]>> Loop<G> {
         Ok(false)
     }
 
-    /// The signature of what was given to be signed. The vote is given to be sent once it is
-    /// written. Where a rule refuses it by now, nothing is.
+    /// The signature of what was given to be signed. `verify` finds out whether it attests, one
+    /// verdict on the one attestation: a signer may err, and all would block this validator for it.
+    /// The vote is given to be sent once it is written. Where a rule refuses it by now, nothing is.
+    /// Then poll.
     ///
     /// # Errors
     ///
-    /// `OutOfMemory`, after which the same call can be made again. `SignatureBytes`, where a
-    /// signature has more than 96 bytes.
-    pub fn signed(&mut self, subject: Subject, signature: &G) -> Result<(), VoteError> {
+    /// `OutOfMemory`, after which the same call can be made again. `NotVerified`, where it doesn't
+    /// attest, and `SignatureBytes`, where a signature has more than 96 bytes. Nothing is written
+    /// then, and another vote may be given to be signed. This one is again after [`Loop::expire`].
+    ///
+    /// # Panics
+    ///
+    /// Where there isn't one verdict.
+    pub fn signed(
+        &mut self,
+        subject: Subject,
+        signature: &G,
+        verify: impl FnOnce(&Wanted<G>) -> Vec<bool>,
+    ) -> Result<(), SignError> {
         let vote = Vote::new(subject, Attestation::new(self.me, signature.clone()));
-        match self.library.cast(&flat_vote(&vote)?, true) {
-            code::OUT_OF_MEMORY => Err(VoteError::OutOfMemory),
+        let (flat, wanted) = match self.to_cast(&vote) {
+            Ok(it) => it,
+            Err(error) => {
+                if error == VoteError::SignatureBytes {
+                    self.refuse(&subject);
+                }
+                return Err(error.into());
+            }
+        };
+        match self.library.cast(&flat, attest(&wanted, verify)) {
+            code::NOT_VERIFIED => Err(SignError::NotVerified),
+            code::OUT_OF_MEMORY => Err(SignError::OutOfMemory),
             _ => Ok(()),
         }
+    }
+
+    /// An own vote as the library takes it, and its attestation as it is made of these bytes.
+    fn to_cast(&self, vote: &Vote<G>) -> Result<(ffi::Vote, Wanted<G>), VoteError> {
+        let flat = flat_vote(vote)?;
+        let wanted = self.own(vote.subject(), &flat.attestation)?;
+        Ok((flat, wanted))
+    }
+
+    /// There is no signature for this.
+    fn refuse(&mut self, subject: &Subject) {
+        let none = ffi::Vote {
+            proposal: flat_subject(subject),
+            attestation: ffi::Attestation {
+                signer: self.me.get(),
+                ..ffi::Attestation::default()
+            },
+            kind: kind_code(subject.kind()),
+        };
+        let answer = self.library.cast(&none, false);
+        debug_assert_eq!(answer, code::NOT_VERIFIED);
     }
 
     /// The bytes to sign for a subject, and to verify a signature on it: no other subject has the
@@ -941,26 +1212,25 @@ impl<G: Clone + AsRef<[u8]> + for<'b> TryFrom<&'b [u8]>> Loop<G> {
 
     /// The proposal of a view that is notarized or final. The parent of another is named by its view.
     /// None of views before the final one, nor of the start, which view 0 is.
-    ///
-    /// # Errors
-    ///
-    /// `OutOfMemory`.
-    pub fn certified(&self, view: View) -> Result<Option<Proposal>, OutOfMemory> {
-        for kind in [Kind::Notarization, Kind::Finalization] {
-            if let Some(certificate) = self.kept(kind, Round::new(self.epoch, view))? {
-                return Ok(certificate.proposal());
-            }
-        }
-        Ok(None)
+    pub fn certified(&self, view: View) -> Option<Proposal> {
+        let round = Round::new(self.epoch, view);
+        [Kind::Notarization, Kind::Finalization]
+            .into_iter()
+            .find_map(|kind| self.subject_certified(kind, round)?.proposal())
     }
 
-    /// Whether a certificate of this kind and round is kept, so that another one needn't be verified.
+    /// Whether a certificate of this kind and round is known, and kept: no other one is wanted.
     pub fn has_certificate(&self, kind: Kind, round: Round) -> bool {
-        let (mut flat, mut count) = (flat_round(&round), 0);
-        let answer = self
-            .library
-            .kept(kind_code(kind), &mut flat, &mut Vec::new(), &mut count);
-        answer != code::IDLE
+        self.subject_certified(kind, round).is_some()
+    }
+
+    fn subject_certified(&self, kind: Kind, round: Round) -> Option<Subject> {
+        let mut flat = flat_round(&round);
+        match self.library.certified(kind_code(kind), &mut flat) {
+            code::DONE => Some(subject_of(kind, &flat)),
+            code::IDLE => None,
+            other => unknown(other),
+        }
     }
 
     /// The certificate of this kind and round, if it is kept: those are from the final view on. Send
@@ -968,8 +1238,8 @@ impl<G: Clone + AsRef<[u8]> + for<'b> TryFrom<&'b [u8]>> Loop<G> {
     ///
     /// # Errors
     ///
-    /// `OutOfMemory`.
-    pub fn kept(&self, kind: Kind, round: Round) -> Result<Option<Listed>, OutOfMemory> {
+    /// `OutOfMemory`, and `NotWritten` where it may have an own vote that isn't on the disk.
+    pub fn kept(&self, kind: Kind, round: Round) -> Result<Option<Listed>, KeptError> {
         let (mut flat, mut count) = (flat_round(&round), 0);
         let mut bytes = Vec::new();
         loop {
@@ -982,10 +1252,39 @@ impl<G: Clone + AsRef<[u8]> + for<'b> TryFrom<&'b [u8]>> Loop<G> {
                 }
                 code::IDLE => return Ok(None),
                 code::SHORT => reserve_bytes(&mut bytes, count)?,
-                code::OUT_OF_MEMORY => return Err(OutOfMemory),
+                code::NOT_WRITTEN => return Err(KeptError::NotWritten),
                 other => unknown(other),
             }
         }
+    }
+}
+
+/// Whether all attest, as the verifier says.
+fn attest<G>(wanted: &Wanted<G>, verify: impl FnOnce(&Wanted<G>) -> Vec<bool>) -> bool {
+    let verdicts = verify(wanted);
+    assert_eq!(wanted.attestations.len(), verdicts.len(), "{ONE_EACH}");
+    verdicts.iter().all(|attests| *attests)
+}
+
+/// Who leads each view.
+trait Leads {
+    fn leader(&self, view: View) -> Participant;
+}
+
+/// One function in an array, since a list takes memory that may be refused, and a box doesn't.
+impl<F: Fn(View) -> Participant> Leads for [F; 1] {
+    fn leader(&self, view: View) -> Participant {
+        self[0](view)
+    }
+}
+
+fn boxed(leader: impl Fn(View) -> Participant + 'static) -> Result<Box<dyn Leads>, OutOfMemory> {
+    let mut one = Vec::new();
+    one.try_reserve_exact(1).map_err(|_| OutOfMemory)?;
+    one.push(leader);
+    match <Box<[_; 1]>>::try_from(one.into_boxed_slice()) {
+        Ok(one) => Ok(one),
+        Err(_) => unreachable!("it has one"),
     }
 }
 

@@ -4,11 +4,11 @@
 mod refusing;
 
 use batcher::errors::RoundError;
-use batcher::looping::{self, Loop, Options, PollError, StartError, Task};
+use batcher::looping::{self, KeptError, Loop, Options, PollError, StartError, Task};
 use batcher::positions::Round as Number;
 use batcher::{
-    Certificate, Epoch, Mode, Participant, Proposal, Round, Sha256Digest, Step, Subject, View,
-    Wanted,
+    Certificate, Epoch, Kind, Mode, Participant, Proposal, Round, Sha256Digest, Step, Subject,
+    View, Wanted,
 };
 use refusing::{Plain, Signature, again, asks, each_refused_in_turn, once, uncounted, vote};
 
@@ -267,7 +267,9 @@ impl Validator {
             ahead: 4,
             track_historical_votes: false,
         };
-        let leader = |view: View| Participant::new((view.get() % 4) as u32);
+        // It holds something, so that memory is taken for it.
+        let count = u64::from(options.participants);
+        let leader = move |view: View| Participant::new((view.get() % count) as u32);
         let begin = || Loop::<Signature>::begin(&options, leader);
         let running = match once(granted, begin) {
             Err(StartError::OutOfMemory) => begin(),
@@ -290,13 +292,14 @@ impl Validator {
             };
             match task.unwrap() {
                 None => return,
-                Some(Task::Write(_)) => once(granted, || running.wrote()),
+                Some(Task::Write(write)) => once(granted, || running.wrote(write)).unwrap(),
                 Some(Task::Verify(wanted)) => {
                     let verdicts = verdicts(&wanted);
                     again(granted, || running.conclude(&wanted, &verdicts)).unwrap();
                 }
                 Some(Task::Sign(subject)) => {
-                    again(granted, || running.signed(subject, &[1])).unwrap();
+                    let verify = |wanted: &_| uncounted(|| verdicts(wanted));
+                    again(granted, || running.signed(subject, &[1], verify)).unwrap();
                 }
                 Some(task) => self.answers.push(format!("{task:?}")),
             }
@@ -337,8 +340,13 @@ fn a_validator_goes_on_where_memory_is_refused() {
         it.hear(granted, 1, Subject::Notarize { proposal }, [1, 1, 1]);
         it.hear(granted, 2, Subject::Finalize { proposal }, [1, 0, 1]);
         it.hear(granted, 3, Subject::Finalize { proposal }, [1, 1, 1]);
-        let kept = again(granted, || it.running.certified(View::new(3)));
+        let kept = match once(granted, || it.running.kept(Kind::Finalization, later)) {
+            Err(KeptError::OutOfMemory) => it.running.kept(Kind::Finalization, later),
+            kept => kept,
+        };
         it.answers.push(format!("{kept:?}"));
+        let certified = it.running.certified(View::new(3));
+        it.answers.push(format!("{certified:?}"));
         it.answers
     });
 }

@@ -1,6 +1,7 @@
 //! Validators of the crate: four of them, which are stopped and go on by their disks, and what a
 //! caller may do wrong.
 
+mod shared;
 mod toy;
 
 use batcher::looping::{Cause, Listed, Loop, Options, Receipt, StartError, Task, Verdict, Wanted};
@@ -8,6 +9,7 @@ use batcher::positions::Round;
 use batcher::{
     Attestation, Certificate, Epoch, Kind, Participant, Proposal, Sha256Digest, Subject, View, Vote,
 };
+use shared::put;
 use std::collections::BTreeMap;
 use toy::{Signature, attests, sign};
 
@@ -63,7 +65,7 @@ impl Station {
     }
 
     fn restart(&mut self) {
-        self.running = match Loop::start(&options(self.me), leader, &self.disk) {
+        self.running = match Loop::start(&options(self.me), leader, &self.disk, verdicts) {
             Ok(running) => running,
             // It was stopped before anything was written.
             Err(StartError::NotBegun) => Loop::begin(&options(self.me), leader).unwrap(),
@@ -93,11 +95,8 @@ impl Station {
             };
             match task {
                 Task::Write(write) => {
-                    if write.replaces {
-                        self.disk.clear();
-                    }
-                    self.disk.extend_from_slice(&write.bytes);
-                    self.running.wrote();
+                    put(&mut self.disk, &write);
+                    self.running.wrote(write).unwrap();
                 }
                 Task::Block(peer, _) => self.blocked.push(peer),
                 Task::Final(proposal) => {
@@ -116,7 +115,8 @@ impl Station {
                 Task::Sign(_) if !self.signs => {}
                 Task::Sign(subject) => {
                     let signature = sign(&subject, self.me);
-                    self.running.signed(subject, &signature).unwrap();
+                    let signed = self.running.signed(subject, &signature, verdicts);
+                    signed.unwrap();
                 }
                 Task::Propose { view, parent } => {
                     let payload = Sha256Digest([view.get() as u8; 32]);
@@ -401,8 +401,10 @@ fn of_seven() -> Loop<Signature> {
         ..options(0)
     };
     let mut running = Loop::<Signature>::begin(&options, leader).unwrap();
-    assert!(matches!(running.poll(), Ok(Some(Task::Write(_)))));
-    running.wrote();
+    let Some(Task::Write(write)) = running.poll().unwrap() else {
+        panic!("its journal is written first");
+    };
+    running.wrote(write).unwrap();
     assert!(matches!(running.poll(), Ok(Some(Task::Enter(_)))));
     running
 }
@@ -443,7 +445,7 @@ fn views_are_verified_at_once() {
     assert_eq!(running.conclude(&first, &[true; 5]), Ok(true));
     while let Some(task) = running.poll().unwrap() {
         match task {
-            Task::Write(_) => running.wrote(),
+            Task::Write(write) => running.wrote(write).unwrap(),
             Task::SendCertificate(_) | Task::Enter(_) | Task::Propose { .. } => {}
             other => panic!("{other:?}"),
         }
@@ -494,7 +496,7 @@ fn tasks(running: &mut Loop<Signature>) -> Vec<Task<Signature>> {
     let mut tasks = Vec::new();
     while let Some(task) = running.poll().unwrap() {
         match task {
-            Task::Write(_) => running.wrote(),
+            Task::Write(write) => running.wrote(write).unwrap(),
             other => tasks.push(other),
         }
     }
@@ -530,8 +532,8 @@ fn kinds_are_verified_at_once() {
     assert_eq!(running.conclude(first, &[true; 5]), Ok(true));
     let is_final = |task: &Task<_>| matches!(task, Task::Final(it) if *it == proposal);
     assert!(tasks(&mut running).iter().any(is_final));
-    assert_eq!(running.certified(View::new(1)), Ok(Some(proposal)));
-    assert_eq!(running.certified(View::new(2)), Ok(None));
+    assert_eq!(running.certified(View::new(1)), Some(proposal));
+    assert_eq!(running.certified(View::new(2)), None);
 }
 
 #[test]
@@ -555,7 +557,7 @@ fn a_payload_is_forwarded_to_who_may_lack_it() {
                 match task {
                     Task::Sign(subject) => {
                         let signature = sign(&subject, 0);
-                        running.signed(subject, &signature).unwrap();
+                        running.signed(subject, &signature, verdicts).unwrap();
                     }
                     Task::Verify(wanted) => {
                         let verdicts = vec![true; wanted.attestations().len()];
@@ -618,7 +620,7 @@ fn a_view_says_why_it_hangs() {
 fn a_disk_is_of_one_validator() {
     let station = begun(1);
     let started =
-        |options: &Options, disk: &[u8]| Loop::<Signature>::start(options, leader, disk).err();
+        |options: &Options, disk: &[u8]| Loop::start(options, leader, disk, verdicts).err();
     assert_eq!(started(&options(1), &station.disk), None);
     assert_eq!(
         started(&options(2), &station.disk),

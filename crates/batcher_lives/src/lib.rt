@@ -7,8 +7,6 @@ mod failing;
 mod filed;
 mod life;
 mod restart;
-#[cfg(test)]
-mod tests;
 
 pub use deeds::{Deed, Lived};
 pub use failing::{FailingLog, Mishap};

@@ -2,6 +2,14 @@
 #![tactic(auto)]
 
 #[cfg(test)]
+mod lives;
+#[cfg(test)]
+mod loops;
+#[cfg(test)]
 mod nodes;
 #[cfg(test)]
 mod tests;
+#[cfg(test)]
+mod validators;
+#[cfg(test)]
+mod voters;

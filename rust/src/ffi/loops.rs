@@ -71,14 +71,15 @@ unsafe extern "C" {
     ) -> u8;
     fn batcher_loop_free(validator: *mut LoopHandle);
     fn batcher_loop_poll(validator: *mut LoopHandle, task: *mut Task) -> u8;
-    fn batcher_loop_owed(
-        validator: *const LoopHandle,
+    fn batcher_loop_give(
+        validator: *mut LoopHandle,
+        number: u64,
         room: *mut u8,
         room_length: usize,
         count: *mut u64,
         replaces: *mut bool,
     ) -> u8;
-    fn batcher_loop_wrote(validator: *mut LoopHandle) -> u8;
+    fn batcher_loop_wrote(validator: *mut LoopHandle, number: u64) -> u8;
     fn batcher_loop_vote(
         validator: *mut LoopHandle,
         peer: u64,
@@ -116,6 +117,21 @@ unsafe extern "C" {
     fn batcher_loop_judge(validator: *mut LoopHandle, proposal: *const Proposal, valid: bool)
     -> u8;
     fn batcher_loop_expire(validator: *mut LoopHandle, view: u64, progress: *mut Progress) -> u8;
+    fn batcher_loop_certified(
+        validator: *const LoopHandle,
+        kind: u8,
+        proposal: *mut Proposal,
+    ) -> u8;
+    fn batcher_loop_own_vote(validator: *const LoopHandle, index: u64, out: *mut Vote) -> u8;
+    fn batcher_loop_held(
+        validator: *const LoopHandle,
+        index: u64,
+        kind: *mut u8,
+        proposal: *mut Proposal,
+        room: *mut u8,
+        room_length: usize,
+        count: *mut u64,
+    ) -> u8;
     fn batcher_loop_kept(
         validator: *const LoopHandle,
         kind: u8,
@@ -142,7 +158,7 @@ impl Loop {
             at: ptr::null_mut(),
         };
         let mut made = Loop { handle };
-        super::batcher_abi_4();
+        super::batcher_abi_5();
         // SAFETY: as above; an empty handle is a null pointer.
         let answer = unsafe {
             batcher_loop_start(
@@ -165,16 +181,22 @@ impl Loop {
         unsafe { batcher_loop_poll(&mut self.handle, task) }
     }
 
-    pub(crate) fn owed(&self, bytes: &mut Vec<u8>, count: &mut u64, replaces: &mut bool) -> u8 {
+    pub(crate) fn give(
+        &mut self,
+        number: u64,
+        bytes: &mut Vec<u8>,
+        count: &mut u64,
+        replaces: &mut bool,
+    ) -> u8 {
         write_into(bytes, count, |room, length, count| {
             // SAFETY: as above, and the room is as long as is said.
-            unsafe { batcher_loop_owed(&self.handle, room, length, count, replaces) }
+            unsafe { batcher_loop_give(&mut self.handle, number, room, length, count, replaces) }
         })
     }
 
-    pub(crate) fn wrote(&mut self) -> u8 {
+    pub(crate) fn wrote(&mut self, number: u64) -> u8 {
         // SAFETY: as above.
-        unsafe { batcher_loop_wrote(&mut self.handle) }
+        unsafe { batcher_loop_wrote(&mut self.handle, number) }
     }
 
     pub(crate) fn vote(&mut self, peer: u64, vote: &Vote, admission: &mut Admission) -> u8 {
@@ -255,6 +277,30 @@ impl Loop {
     pub(crate) fn expire(&mut self, view: u64, progress: &mut Progress) -> u8 {
         // SAFETY: as above.
         unsafe { batcher_loop_expire(&mut self.handle, view, progress) }
+    }
+
+    pub(crate) fn certified(&self, kind: u8, proposal: &mut Proposal) -> u8 {
+        // SAFETY: as above.
+        unsafe { batcher_loop_certified(&self.handle, kind, proposal) }
+    }
+
+    pub(crate) fn own_vote(&self, index: u64, out: &mut Vote) -> u8 {
+        // SAFETY: as above.
+        unsafe { batcher_loop_own_vote(&self.handle, index, out) }
+    }
+
+    pub(crate) fn held(
+        &self,
+        index: u64,
+        kind: &mut u8,
+        proposal: &mut Proposal,
+        bytes: &mut Vec<u8>,
+        count: &mut u64,
+    ) -> u8 {
+        write_into(bytes, count, |room, length, count| {
+            // SAFETY: as above, and the room is as long as is said.
+            unsafe { batcher_loop_held(&self.handle, index, kind, proposal, room, length, count) }
+        })
     }
 
     pub(crate) fn kept(

@@ -53,11 +53,13 @@ static HEAP: Refusing = Refusing;
 pub type Signature = [u8; 1];
 
 /// The scheme's calls that a round makes take no memory, but for the bytes of a certificate.
+#[allow(dead_code)]
 pub struct Plain {
     participants: Set<u32>,
     aggregates: bool,
 }
 
+#[allow(dead_code)]
 impl Plain {
     /// The scheme of so many participants, whose keys are their indices.
     pub fn new(participants: u32, aggregates: bool) -> Arc<Self> {

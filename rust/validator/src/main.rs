@@ -60,7 +60,7 @@ fn one(index: &str, folder: &Path, ports: &[String]) -> Result<(), Box<dyn Error
     let me = Participant::new(index.parse()?);
     let keys = pairs.swap_remove(usize::from(me));
     let ports: Result<Vec<u16>, _> = ports.iter().map(|port| port.parse()).collect();
-    let disk = Files::open(folder)?;
+    let files = Files::open(folder)?;
     let record = Record::open(folder)?;
     let (peers, inbox) = Peers::start(me, &keys, &participants, &ports?)?;
     let station = Station {
@@ -69,8 +69,7 @@ fn one(index: &str, folder: &Path, ports: &[String]) -> Result<(), Box<dyn Error
         participants,
         fault: Fault::of(me),
         peers,
-        disk,
         record,
     };
-    Validator::new(station)?.run(&inbox)
+    Validator::new(station, files)?.run(&inbox)
 }

@@ -5,7 +5,7 @@ use crate::record::Record;
 use crate::sodium::{KeyPair, PublicKey, Signature, sha256, verify};
 use crate::transport::{Message, Peers};
 use batcher::looping::{Loop, Options, Task, Wanted};
-use batcher::{Attestation, Epoch, Files, Participant, Sha256Digest, Subject, View, Vote};
+use batcher::{Attestation, Epoch, Files, Opened, Participant, Sha256Digest, Subject, View, Vote};
 use std::error::Error;
 use std::sync::mpsc::{Receiver, RecvTimeoutError};
 use std::time::{Duration, Instant};
@@ -15,14 +15,13 @@ const PATIENCE: Duration = Duration::from_millis(250);
 
 type Outcome<T> = Result<T, Box<dyn Error>>;
 
-/// What a validator is given: who it is, and the ways to the others and to its disk.
+/// What a validator is given: who it is, and the ways to the others.
 pub struct Station {
     pub me: Participant,
     pub keys: KeyPair,
     pub participants: Vec<PublicKey>,
     pub fault: Fault,
     pub peers: Peers,
-    pub disk: Files,
     /// Where it notes what is final, whom it blocks and what it sends.
     pub record: Record,
 }
@@ -30,15 +29,16 @@ pub struct Station {
 pub struct Validator {
     pub station: Station,
     running: Loop<Signature>,
+    disk: Files,
     view: View,
     last: View,
     deadline: Instant,
 }
 
 impl Validator {
-    /// The validator that goes on by what its disk has. A disk that was created for it and has
-    /// nothing yet shows that nothing was signed, so it begins.
-    pub fn new(station: Station) -> Outcome<Self> {
+    /// The validator that goes on by what its files have. Files that were created for it and have
+    /// nothing yet show that nothing was signed, so it begins.
+    pub fn new(station: Station, files: Opened) -> Outcome<Self> {
         let count = station.participants.len() as u32;
         let options = Options {
             epoch: Epoch::zero(),
@@ -50,13 +50,12 @@ impl Validator {
             track_historical_votes: false,
         };
         let leader = move |view: View| Participant::new((view.get() % u64::from(count)) as u32);
-        let running = match station.disk.bytes() {
-            [] => Loop::begin(&options, leader)?,
-            bytes => Loop::start(&options, leader, bytes)?,
-        };
+        let verify = |wanted: &_| verdicts(&station.participants, wanted);
+        let (running, disk) = files.start(&options, leader, verify)?;
         Ok(Validator {
             station,
             running,
+            disk,
             view: View::zero(),
             last: View::zero(),
             deadline: Instant::now() + PATIENCE,
@@ -105,8 +104,8 @@ impl Validator {
     fn perform(&mut self, task: Task<Signature>) -> Outcome<()> {
         match task {
             Task::Write(write) => {
-                self.station.disk.write(write.replaces, &write.bytes)?;
-                self.running.wrote();
+                self.disk.write(&write)?;
+                self.running.wrote(write).unwrap();
             }
             Task::Block(peer, cause) => {
                 self.station.record.blocks(peer, cause)?;
@@ -134,7 +133,12 @@ impl Validator {
                 let verdicts = verdicts(&self.station.participants, &wanted);
                 self.running.conclude(&wanted, &verdicts)?;
             }
-            Task::Sign(subject) => self.running.signed(subject, &self.sign(&subject)?)?,
+            Task::Sign(subject) => {
+                let signature = self.sign(&subject)?;
+                let participants = &self.station.participants;
+                let verify = |wanted: &_| verdicts(participants, wanted);
+                self.running.signed(subject, &signature, verify)?;
+            }
             Task::Propose { view, parent } => {
                 let numbers = [view, parent].map(|it| it.get().to_be_bytes());
                 let payload = Sha256Digest(sha256(&numbers.concat()));

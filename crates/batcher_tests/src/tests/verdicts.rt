@@ -29,7 +29,7 @@ fn next_wanted<S: Scheme<Digest>>(
 }
 
 // A verdict on each attestation, by the scheme.
-fn verdicts_on<S: Scheme<Digest>>(
+pub(crate) fn verdicts_on<S: Scheme<Digest>>(
     alloc: Global,
     scheme: &S,
     subject: Subject<Digest>,

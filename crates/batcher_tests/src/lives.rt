@@ -1,11 +1,9 @@
 //! Tests of what no clause says: that deeds are done where memory is there and the disk works.
 //! What is handed out, and what a crash leaves, is by hand.
 
-use crate::deeds::{Deed, Lived};
-use crate::failing::{FailingLog, Mishap};
-use crate::life::live;
 use batcher_file::{FileLog, OpenFault};
 use batcher_journal::{Journal, Owner, Unopened};
+use batcher_lives::{Deed, FailingLog, Lived, Mishap, live};
 use batcher_types::messages::{Attestation, Proposal, Sha256Digest, Subject, Vote};
 use batcher_types::positions::{Epoch, Participant, Round, View};
 use sqlite_disk::{Fuse, Memory};

@@ -1,0 +1,659 @@
+//! Tests of what no clause says: that what is to be done comes, and in which order. By hand.
+
+ghost use Rattle.std.specs.Prelude.{◌≡◌, ◌<◌, ℕ, length};
+
+use crate::tests::verdicts::verdicts_on;
+use batcher::messages::{Attestation, Certificate, Kind, Proposal, Sha256Digest, Subject, Vote};
+use batcher::positions::{Epoch, Participant, Round, View};
+use batcher::round::BlockReason;
+use batcher::scheme::{AttestationList, Counter, Keyed, Name, Scheme, names};
+use batcher_bytes::MemoryLog;
+use batcher_journal::{Journal, Owner, Unopened};
+use batcher_node::{Cast, Cause, Receipt, Verdict};
+use batcher_validator::{PollFault, Task, Validator};
+use batcher_voter::NotStarted;
+use std::alloc::Global;
+use std::marker::Model;
+use std::process::Abort;
+use std::rc::Rc;
+use std::test::Fail;
+
+type Digest = Sha256Digest;
+
+type TestValidator = Validator<Keyed<true>, Digest, MemoryLog>;
+
+type TestTask = Task<[u8; 32], Digest>;
+
+type TestAttestation = Attestation<[u8; 32]>;
+
+const EPOCH: Epoch = Epoch(5);
+
+// The participant that votes alone. Three of four are a quorum.
+const ME: u32 = 3;
+
+fn owner(me: u32) -> Owner<'static> {
+    Owner {
+        namespace: b"test",
+        keys: b"keys",
+        participant: Participant(me),
+        digest_len: 32,
+        signature_len: 32,
+    }
+}
+
+fn at(view: u64) -> Round {
+    Round::new(EPOCH, View(view))
+}
+
+fn proposal(view: u64, parent: u64) -> Proposal<Digest> {
+    Proposal::new(at(view), View(parent), Sha256Digest([1; 32]))
+}
+
+fn notarize(view: u64, parent: u64) -> Subject<Digest> {
+    let proposal = proposal(view, parent);
+    Subject::Notarize { proposal }
+}
+
+fn nullify(view: u64) -> Subject<Digest> {
+    let round = at(view);
+    Subject::Nullify { round }
+}
+
+fn finalize(view: u64, parent: u64) -> Subject<Digest> {
+    let proposal = proposal(view, parent);
+    Subject::Finalize { proposal }
+}
+
+// A validator of four participants, with the scheme by which they sign.
+#[derive(Drop)]
+struct Station {
+    validator: TestValidator,
+    scheme: Rc<Keyed<true>>,
+    rng: Counter,
+    me: u32,
+}
+
+impl Model for Station {
+    ghost use Rattle.std.specs.Prelude.{◌≡◌, ◌<◌, ℕ, length};
+
+    ghost Value = { ℕ };
+
+    ghost view = { λ s. length s.scheme.value.participants };
+
+    ghost invariant = { λ s. (s.validator.voter.node.scheme ≡ s.scheme.value)
+        × ((length s.scheme.value.participants ≡ 4) × (s.me < 4)) };
+}
+
+impl Station {
+    // The validator of a journal that is begun.
+    fn new(rt: &impl Abort, alloc: Global, me: u32) -> Result<Self, Fail>
+        requires { me < 4 }
+    {
+        let mut log = MemoryLog::new(alloc);
+        assert!(rt;
+            Journal::<[u8; 32], Digest, MemoryLog>::begin(
+                alloc,
+                &mut log,
+                &owner(me),
+                at(0),
+                b""
+            ).is_ok()
+        );
+        Station::of(rt, alloc, log, me)
+    }
+
+    // The validator of a log.
+    fn of(rt: &impl Abort, alloc: Global, log: MemoryLog, me: u32) -> Result<Self, Fail>
+        requires { me < 4 }
+    {
+        let participants = names(alloc, 4)?;
+        let scheme = Rc::new(alloc, Keyed::new(participants, [7; 32]))?;
+        let again = Rc::clone(&scheme)?;
+        let journal = match Journal::open(alloc, log, &owner(me)) {
+            Ok(journal) => journal,
+            Err(Unopened { .. }) => return Err(Fail::new("no journal is there")),
+        };
+        match Validator::start(alloc, again, 5, true, journal) {
+            Ok(validator) => Ok(Station {
+                validator,
+                scheme,
+                rng: Counter::new(0),
+                me,
+            }),
+            Err(NotStarted { fault, .. }) => {
+                assert_eq!(rt; fault, batcher_voter::StartFault::OutOfMemory);
+                Err(Fail::new("no validator is made"))
+            }
+        }
+    }
+
+    // It ends, and is started by its disk alone.
+    fn restarted(self, rt: &impl Abort, alloc: Global) -> Result<Self, Fail> {
+        let Station {
+            validator,
+            scheme,
+            me,
+            ..
+        } = self;
+        drop(scheme);
+        Station::of(
+            rt,
+            alloc,
+            validator.into_voter().into_journal().into_log(),
+            me,
+        )
+    }
+
+    fn poll(&mut self) -> Result<Option<TestTask>, PollFault> {
+        self.validator.poll()
+    }
+
+    // This is to be done next.
+    fn gives(&mut self, rt: &impl Abort, task: TestTask) {
+        assert_eq!(rt; self.poll(), Ok(Some(task)));
+    }
+
+    fn rests(&mut self, rt: &impl Abort) {
+        assert_eq!(rt; self.poll(), Ok(None));
+    }
+
+    fn enter(&mut self, rt: &impl Abort, view: u64) {
+        self.gives(rt, Task::Enter(View(view)));
+        assert!(rt; self.validator.enter(View(view), Participant(0)).is_ok());
+    }
+
+    // Votes wait, and are verified. It says whether a construction was made.
+    fn verify(&mut self, rt: &impl Abort) -> Result<bool, Fail> {
+        self.gives(rt, Task::Verify);
+        Ok(self.validator.try_construct(&mut self.rng)?)
+    }
+
+    // What waits to be verified, as it is lent.
+    fn lent(&self, alloc: Global) -> Result<(Subject<Digest>, Vec<TestAttestation>), Fail> {
+        let attempt = match self.validator.next_attempt() {
+            Some(attempt) => attempt,
+            None => return Err(Fail::new("nothing is lent")),
+        };
+        let mut list = Vec::new(alloc);
+        list.extend_from_slice(attempt.pending)?;
+        Ok((attempt.subject, list))
+    }
+
+    // Verdicts are handed in on what was lent. It says whether a construction was made by them.
+    fn conclude(
+        &mut self,
+        alloc: Global,
+        subject: Subject<Digest>,
+        list: &[TestAttestation],
+    ) -> Result<bool, Fail> {
+        let verdicts = verdicts_on(alloc, &*self.scheme, subject, list)?;
+        Ok(self.validator.conclude(subject, list, verdicts.as_slice())?)
+    }
+
+    // All votes that wait are verified, and nothing else is to be done.
+    fn verify_all(&mut self, rt: &impl Abort) -> Result<(), Fail> {
+        for _ in 0..4 {
+            match self.poll() {
+                Ok(Some(Task::Verify)) => {
+                    let _ = self.validator.try_construct(&mut self.rng)?;
+                }
+                Ok(None) => return Ok(()),
+                _ => panic!(rt; "something else is to be done"),
+            }
+        }
+        Err(Fail::new("votes wait for ever"))
+    }
+
+    // It is to sign this, and the vote is given to be sent once it is written.
+    fn sign(&mut self, rt: &impl Abort, subject: Subject<Digest>) {
+        self.gives(rt, Task::Sign(subject));
+        let vote = Vote::new(subject, self.scheme.sign(Participant(self.me), subject));
+        match self.validator.cast(vote) {
+            Ok(Cast::ToSend(_)) => {}
+            _ => panic!(rt; "the vote isn't to be sent"),
+        }
+        self.gives(rt, Task::SendVote(vote));
+    }
+
+    // A vote of its own that is on the disk is given to be cast again, and is.
+    fn casts_again(&mut self, rt: &impl Abort, subject: Subject<Digest>) {
+        let written = Vote::new(subject, self.scheme.sign(Participant(self.me), subject));
+        self.gives(rt, Task::Cast(written));
+        assert!(rt; self.try_cast(subject));
+    }
+
+    // It is given to be sent.
+    fn sends_again(&mut self, rt: &impl Abort, subject: Subject<Digest>) {
+        let vote = Vote::new(subject, self.scheme.sign(Participant(self.me), subject));
+        self.gives(rt, Task::SendVote(vote));
+    }
+
+    // A participant's vote comes from it.
+    fn hear(&mut self, signer: u32, subject: Subject<Digest>) -> Result<(), Fail> {
+        let vote = Vote::new(subject, self.scheme.sign(Participant(signer), subject));
+        let _ = self.validator.receive_vote(Name(u64::from(signer)), vote)?;
+        Ok(())
+    }
+
+    fn certificate(
+        &self,
+        alloc: Global,
+        subject: Subject<Digest>,
+    ) -> Result<Certificate<AttestationList, Digest>, Fail> {
+        let mut attestations = Vec::new(alloc);
+        for signer in 0..3u32 {
+            let attestation: Attestation<[u8; 32]> = self.scheme.sign(Participant(signer), subject);
+            attestations.push(attestation)?;
+        }
+        Ok(Certificate::new(subject, AttestationList::new(attestations)))
+    }
+}
+
+#[test]
+fn what_is_to_be_done_comes(rt: HostRuntime) -> Result<(), Fail> {
+    let mut station = Station::new(&rt, rt.alloc(), ME)?;
+    let played = play(&mut station, &rt);
+    match played {
+        Ok(()) => {}
+        Err(fail) => {
+            drop(station);
+            return Err(fail);
+        }
+    }
+    let mut again = station.restarted(&rt, rt.alloc())?;
+    let went = go_on(&mut again, &rt);
+    drop(again);
+    went
+}
+
+fn play(station: &mut Station, rt: &impl Abort) -> Result<(), Fail> {
+    station.enter(rt, 1);
+    // Votes are given to be verified once, until they are.
+    station.gives(rt, Task::Verify);
+    station.rests(rt);
+    assert!(rt; station.validator.try_construct(&mut station.rng)?);
+    station.rests(rt);
+    // What the leader proposes is given to be judged once, and notarized where it is valid.
+    station.hear(0, notarize(1, 0))?;
+    station.gives(rt, Task::Judge(proposal(1, 0)));
+    station.gives(rt, Task::Verify);
+    station.rests(rt);
+    station.validator.judge(&proposal(1, 0), true);
+    station.sign(rt, notarize(1, 0));
+    station.rests(rt);
+    station.hear(1, notarize(1, 0))?;
+    assert!(rt; station.validator.try_construct(&mut station.rng)?);
+    station.enter(rt, 2);
+    station.gives(rt, Task::SendCertificate(Kind::Notarization, at(1)));
+    station.gives(rt, Task::Forward(at(1)));
+    assert!(rt;
+        station
+            .validator
+            .certificate(Kind::Notarization, at(1))
+            .is_some()
+    );
+    // What is notarized is finalized.
+    station.sign(rt, finalize(1, 0));
+    station.hear(0, finalize(1, 0))?;
+    station.hear(1, finalize(1, 0))?;
+    assert!(rt; station.verify(rt)?);
+    // What is final comes before what is to be sent.
+    station.gives(rt, Task::Final(proposal(1, 0)));
+    station.gives(rt, Task::SendCertificate(Kind::Finalization, at(1)));
+    assert_eq!(rt; station.validator.certificates().len(), 2);
+    station.verify_all(rt)?;
+    // A peer that contradicts itself is to be blocked, and once.
+    station.hear(2, notarize(2, 1))?;
+    station.hear(2, nullify(2))?;
+    station.hear(2, finalize(2, 1))?;
+    let reason = BlockReason::FinalizeAfterNullify;
+    station.gives(rt, Task::Block(Participant(2), Cause::Vote(reason)));
+    // A view whose time is over is given up, and nothing more is judged there.
+    station.validator.expire(View(3));
+    station.gives(rt, Task::Verify);
+    station.rests(rt);
+    station.validator.expire(View(2));
+    station.sign(rt, nullify(2));
+    station.hear(0, notarize(2, 1))?;
+    station.rests(rt);
+    // What was sent is given again, when that is asked for.
+    station.validator.send_again();
+    station.sends_again(rt, notarize(1, 0));
+    station.sends_again(rt, finalize(1, 0));
+    station.sends_again(rt, nullify(2));
+    station.gives(rt, Task::SendCertificate(Kind::Notarization, at(1)));
+    station.gives(rt, Task::Forward(at(1)));
+    station.gives(rt, Task::SendCertificate(Kind::Finalization, at(1)));
+    station.rests(rt);
+    Ok(())
+}
+
+// By its disk it knows what is final, and has votes and certificates from there on.
+fn go_on(station: &mut Station, rt: &impl Abort) -> Result<(), Fail> {
+    station.gives(rt, Task::Final(proposal(1, 0)));
+    station.enter(rt, 2);
+    station.casts_again(rt, notarize(1, 0));
+    station.casts_again(rt, finalize(1, 0));
+    station.casts_again(rt, nullify(2));
+    station.sends_again(rt, notarize(1, 0));
+    station.sends_again(rt, finalize(1, 0));
+    station.sends_again(rt, nullify(2));
+    station.gives(rt, Task::SendCertificate(Kind::Finalization, at(1)));
+    station.gives(rt, Task::SendCertificate(Kind::Notarization, at(1)));
+    station.gives(rt, Task::Forward(at(1)));
+    // The view stays given up.
+    station.hear(0, notarize(2, 1))?;
+    station.gives(rt, Task::Verify);
+    station.rests(rt);
+    Ok(())
+}
+
+#[test]
+fn verdicts_come_late(rt: HostRuntime) -> Result<(), Fail> {
+    let mut station = Station::new(&rt, rt.alloc(), ME)?;
+    let concluded = conclude(&mut station, &rt, rt.alloc());
+    drop(station);
+    concluded
+}
+
+fn conclude(station: &mut Station, rt: &impl Abort, alloc: Global) -> Result<(), Fail> {
+    station.enter(rt, 1);
+    station.hear(0, nullify(1))?;
+    station.hear(1, nullify(1))?;
+    // Two of four are no quorum: nothing is lent, and the view rests.
+    assert!(rt; station.validator.next_attempt().is_none());
+    assert!(rt; station.verify(rt)?);
+    station.rests(rt);
+    station.hear(2, nullify(1))?;
+    station.gives(rt, Task::Verify);
+    let (subject, list) = station.lent(alloc)?;
+    assert_eq!(rt; (subject, list.len()), (nullify(1), 3));
+    assert!(rt; station.conclude(alloc, subject, list.as_slice())?);
+    station.enter(rt, 2);
+    station.gives(rt, Task::SendCertificate(Kind::Nullification, at(1)));
+    // Verdicts that come too late change nothing, and votes that wait are given to be verified.
+    station.hear(0, nullify(2))?;
+    station.gives(rt, Task::Verify);
+    station.rests(rt);
+    assert!(rt; !station.conclude(alloc, subject, list.as_slice())?);
+    station.gives(rt, Task::Verify);
+    Ok(())
+}
+
+#[test]
+fn who_leads_proposes(rt: HostRuntime) -> Result<(), Fail> {
+    let mut station = Station::new(&rt, rt.alloc(), 0)?;
+    let led = lead(&mut station, &rt);
+    drop(station);
+    led
+}
+
+// It leads each view.
+fn lead(station: &mut Station, rt: &impl Abort) -> Result<(), Fail> {
+    station.enter(rt, 1);
+    let (view, parent) = (View(1), View(0));
+    station.gives(rt, Task::Propose { view, parent });
+    station.gives(rt, Task::Verify);
+    station.rests(rt);
+    // It is asked once. A payload for a view that it isn't in yet is dropped.
+    station
+        .validator
+        .propose(View(2), View(1), Sha256Digest([1; 32]));
+    station.rests(rt);
+    station
+        .validator
+        .propose(View(1), View(0), Sha256Digest([1; 32]));
+    station.sign(rt, notarize(1, 0));
+    station.rests(rt);
+    Ok(())
+}
+
+#[test]
+fn who_fell_behind_catches_up(rt: HostRuntime) -> Result<(), Fail> {
+    let mut station = Station::new(&rt, rt.alloc(), ME)?;
+    let caught = catch_up(&mut station, &rt, rt.alloc());
+    drop(station);
+    caught
+}
+
+fn catch_up(station: &mut Station, rt: &impl Abort, alloc: Global) -> Result<(), Fail> {
+    let far = station.certificate(alloc, finalize(90, 1))?;
+    assert!(rt; station.validator.catch_up(far)?);
+    station.gives(rt, Task::Final(proposal(90, 1)));
+    station.enter(rt, 91);
+    station.gives(rt, Task::SendCertificate(Kind::Finalization, at(90)));
+    // One that is before the final view isn't kept, and one that nobody signed is forged.
+    let passed = station.certificate(alloc, finalize(89, 1))?;
+    assert!(rt; station.validator.catch_up(passed)?);
+    assert_eq!(rt; station.validator.certificates().len(), 1);
+    let forged = Certificate::new(finalize(95, 0), AttestationList::new(Vec::new(alloc)));
+    assert!(rt; !station.validator.catch_up(forged)?);
+    // A certificate of the window is handed in with its sender.
+    let known = station.certificate(alloc, notarize(91, 90))?;
+    match station.validator.receive_certificate(Name(0), known)? {
+        Receipt::Answered(Verdict::Recorded(_)) => {}
+        _ => panic!(rt; "the certificate isn't recorded"),
+    }
+    station.gives(rt, Task::Enter(View(92)));
+    station.gives(rt, Task::SendCertificate(Kind::Notarization, at(91)));
+    station.gives(rt, Task::Forward(at(91)));
+    Ok(())
+}
+
+// What a validator sends to all others.
+#[derive(Drop)]
+enum Message {
+    Vote(Vote<[u8; 32], Digest>),
+    Certificate(Certificate<AttestationList, Digest>),
+}
+
+// A validator in a network, which does what is to be done.
+#[derive(Drop)]
+struct Member {
+    station: Station,
+    outbox: Vec<Message>,
+    // The view of the last proposal that was given as final.
+    last: u64,
+    // Whether proposals were given as final by ascending views.
+    ascends: bool,
+    // The view that it is in, and for how many turns it was.
+    view: u64,
+    waits: usize,
+}
+
+impl Member {
+    fn new(rt: &impl Abort, alloc: Global, me: u32) -> Result<Self, Fail>
+        requires { me < 4 }
+    {
+        Ok(Member {
+            station: Station::new(rt, alloc, me)?,
+            outbox: Vec::new(alloc),
+            last: 0,
+            ascends: true,
+            view: 0,
+            waits: 0,
+        })
+    }
+
+    // It ends, and is started by its disk alone. What it was about to send is lost.
+    fn restarted(self, rt: &impl Abort, alloc: Global) -> Result<Self, Fail> {
+        let Member { station, last, .. } = self;
+        let mut member = Member {
+            station: station.restarted(rt, alloc)?,
+            outbox: Vec::new(alloc),
+            last: 0,
+            ascends: true,
+            view: 0,
+            waits: 0,
+        };
+        match member.settle(rt) {
+            Ok(()) => {}
+            Err(fail) => {
+                drop(member);
+                return Err(fail);
+            }
+        }
+        // What was final is known from the disk.
+        assert_eq!(rt; member.last, last);
+        Ok(member)
+    }
+
+    // Does what is to be done, until nothing is.
+    fn settle(&mut self, rt: &impl Abort) -> Result<(), Fail> {
+        for _ in 0..200 {
+            match self.station.poll() {
+                Ok(Some(task)) => self.perform(rt, task)?,
+                Ok(None) => return Ok(()),
+                Err(_) => return Err(Fail::new("the disk or memory failed")),
+            }
+        }
+        Err(Fail::new("it never rests"))
+    }
+
+    fn perform(&mut self, rt: &impl Abort, task: TestTask) -> Result<(), Fail> {
+        match task {
+            Task::Block(_, _) => panic!(rt; "somebody honest is blocked"),
+            Task::Final(proposal) => {
+                if proposal.round.view.0 <= self.last {
+                    self.ascends = false;
+                }
+                self.last = proposal.round.view.0;
+            }
+            Task::SendVote(vote) => self.outbox.push(Message::Vote(vote))?,
+            // Nobody has a payload.
+            Task::Forward(_) => {}
+            Task::SendCertificate(kind, round) => {
+                if let Some(it) = self.station.validator.certificate(kind, round) {
+                    self.outbox.push(Message::Certificate(it.clone()?))?;
+                }
+            }
+            Task::Enter(view) => {
+                let leader = Participant((view.0 % 4) as u32);
+                assert!(rt; self.station.validator.enter(view, leader).is_ok());
+                self.view = view.0;
+                self.waits = 0;
+            }
+            Task::Verify => {
+                let _ = self.station.validator.try_construct(&mut self.station.rng)?;
+            }
+            Task::Cast(vote) => assert!(rt; self.station.try_cast(vote.subject())),
+            Task::Sign(subject) => assert!(rt; self.station.try_cast(subject)),
+            Task::Propose { view, parent } => {
+                self.station
+                    .validator
+                    .propose(view, parent, Sha256Digest([1; 32]));
+            }
+            Task::Judge(proposal) => self.station.validator.judge(&proposal, true),
+        }
+        Ok(())
+    }
+
+    // A turn has passed. A view that takes too long is given up, and what was sent is sent again.
+    fn wait(&mut self) {
+        self.waits = self.waits.saturating_add(1);
+        if self.waits % 4 == 0 {
+            self.station.validator.expire(View(self.view));
+            self.station.validator.send_again();
+        }
+    }
+
+    fn hear(&mut self, peer: u32, message: &Message) -> Result<(), Fail> {
+        let key = Name(u64::from(peer));
+        match message {
+            Message::Vote(vote) => {
+                let _ = self.station.validator.receive_vote(key, *vote)?;
+            }
+            Message::Certificate(certificate) => {
+                let copy = certificate.clone()?;
+                let view = copy.round().view.0;
+                if self
+                    .station
+                    .validator
+                    .voter()
+                    .node()
+                    .window()
+                    .contains(view)
+                {
+                    let _ = self.station.validator.receive_certificate(key, copy)?;
+                } else {
+                    let _ = self.station.validator.catch_up(copy)?;
+                }
+            }
+        }
+        Ok(())
+    }
+}
+
+impl Station {
+    fn try_cast(&mut self, subject: Subject<Digest>) -> bool {
+        let vote = Vote::new(subject, self.scheme.sign(Participant(self.me), subject));
+        self.validator.cast(vote).is_ok()
+    }
+}
+
+#[test]
+fn a_network_goes_on(rt: HostRuntime) -> Result<(), Fail> {
+    let alloc = rt.alloc();
+    let mut members = Vec::new(alloc);
+    for me in 0..4u32 {
+        members.push(Member::new(&rt, alloc, me)?)?;
+    }
+    run(&rt, alloc, &mut members, 12)?;
+    // One is stopped, and started by its disk alone. The others go on meanwhile.
+    let stopped = match members.pop() {
+        Some(member) => member,
+        None => return Err(Fail::new("nobody is there")),
+    };
+    match run(&rt, alloc, &mut members, 24) {
+        Ok(()) => {}
+        Err(fail) => {
+            drop(stopped);
+            return Err(fail);
+        }
+    }
+    members.push(stopped.restarted(&rt, alloc)?)?;
+    run(&rt, alloc, &mut members, 12)?;
+    let mut lowest = u64::MAX;
+    for member in members.as_slice() {
+        assert!(rt; member.ascends);
+        lowest = lowest.min(member.last);
+    }
+    assert!(rt; lowest >= 24);
+    Ok(())
+}
+
+// So many times what was sent comes to all others.
+fn run(
+    rt: &impl Abort,
+    alloc: Global,
+    members: &mut Vec<Member>,
+    times: usize,
+) -> Result<(), Fail> {
+    for _ in 0..times {
+        for from in 0..members.len() {
+            let sent = match members.get_mut(from) {
+                Some(member) => {
+                    member.wait();
+                    member.settle(rt)?;
+                    std::mem::replace(&mut member.outbox, Vec::new(alloc))
+                }
+                None => Vec::new(alloc),
+            };
+            let peer = match members.get(from) {
+                Some(member) => member.station.me,
+                None => 0,
+            };
+            for to in 0..members.len() {
+                if let Some(member) = members.get_mut(to) {
+                    if member.station.me != peer {
+                        for message in sent.as_slice() {
+                            member.hear(peer, message)?;
+                        }
+                        member.settle(rt)?;
+                    }
+                }
+            }
+        }
+    }
+    Ok(())
+}
