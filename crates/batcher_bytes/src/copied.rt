@@ -47,13 +47,13 @@ impl Model for CopiedLog {
       copy = record {
         lasting = copy_in (option_map (λ v. v.items) l.others) l.copied l.bytes.items;
         under_way = option_map (λ number.
-          (number, copy_in (option_map (λ v. v.items) l.between) l.given l.bytes.items))
-          l.under_way;
+            (number, copy_in (option_map (λ v. v.items) l.between) l.given l.bytes.items))
+            l.under_way;
       };
     } };
 
     ghost invariant = { λ l. (l.copied ≤ length l.bytes.items)
-      × (l.given ≤ length l.bytes.items) };
+        × (l.given ≤ length l.bytes.items) };
 }
 
 impl CopiedLog {

@@ -347,10 +347,14 @@ module _ {C G D : Type 0} (format : Format (Certificate C D)) where
       → round_in (subject_certified c) ≡ number → HasOnDisk format contents c
   beside_votes contents c number i within at is =
       of_subject (subject_certified c)
-      (Contains-from_at contents.certificates it (i, within, λ d.
-      let one = at d in
-      as_pair (slice_index_or contents.certificates i d) (round_in (subject_certified c))
-      ((versioned format).encoding c) (one.0 ∙ sym is) one.1))
+      (Contains-from_at contents.certificates it (
+        i,
+        within,
+        λ d.
+            let one = at d in
+            as_pair (slice_index_or contents.certificates i d) (round_in (subject_certified c))
+            ((versioned format).encoding c) (one.0 ∙ sym is) one.1,
+      ))
     where
       it : Certified
       it = (round_in (subject_certified c), (versioned format).encoding c)
@@ -476,19 +480,19 @@ module _ {C G D L : Type 0} (format : Format (Certificate C D)) (old new : Journ
       × (KeepsWhatIsKnown format old knowledge waits → KeepsWhatIsKnown format new knowledge waits)
 
   as_before : IsAsBefore old new → StaysKeeping
-  as_before same =
-      (
-        λ is_open. (sym same.is_open ∙ is_open, ap (λ (c : Contents G D). c.floor) same.contents),
-        same_keeps format old new knowledge waits same,
-      )
+  as_before same = (
+    λ is_open. (sym same.is_open ∙ is_open, ap (λ (c : Contents G D). c.floor) same.contents),
+    same_keeps format old new knowledge waits same,
+  )
 
   the_same : new ≡ old → StaysKeeping
-  the_same e =
-      (
-        λ is_open. (subst (λ (j : JournalView G D L). j.is_open ≡ true) e is_open,
-            ap (λ (j : JournalView G D L). j.contents.floor) e),
-        λ keeps. subst (λ (j : JournalView G D L). KeepsWhatIsKnown format j knowledge waits) (sym e) keeps,
-      )
+  the_same e = (
+    λ is_open. (
+      subst (λ (j : JournalView G D L). j.is_open ≡ true) e is_open,
+      ap (λ (j : JournalView G D L). j.contents.floor) e,
+    ),
+    λ keeps. subst (λ (j : JournalView G D L). KeepsWhatIsKnown format j knowledge waits) (sym e) keeps,
+  )
 
   is_shut : new.is_open ≡ false → StaysKeeping
   is_shut shut =
@@ -503,11 +507,10 @@ module _ {C G D L : Type 0} (format : Format (Certificate C D)) (old new : Journ
   pub after_keep :
       {U E : Type 0} (result : Result U E) (it : Certified) → OnOk result (Keeps old new it)
       → OnErr result (new ≡ old) → StaysKeeping
-  after_keep (Ok u) it ok err =
-      (
-        λ is_open. (sym ok.is_open ∙ is_open, ap (λ (c : Contents G D). c.floor) ok.contents),
-        one_more_keeps format old new it ok knowledge waits,
-      )
+  after_keep (Ok u) it ok err = (
+    λ is_open. (sym ok.is_open ∙ is_open, ap (λ (c : Contents G D). c.floor) ok.contents),
+    one_more_keeps format old new it ok knowledge waits,
+  )
   after_keep (Err e) it ok err = the_same err
 
   pub after_write :
@@ -519,11 +522,10 @@ module _ {C G D L : Type 0} (format : Format (Certificate C D)) (old new : Journ
       → (result ≡ Err NoRoomToWrite → IsAsBefore old new)
       → (result ≡ Err NotFree → (new ≡ old) × B)
       → (result ≡ Err ShutToWrite → (new.is_open ≡ false) × E) → StaysKeeping
-  after_write (Ok u) votes A B E ok memory full not_free closed =
-      (
-        λ is_open. (ok.0, ap (λ (c : Contents G D). c.floor) ok.2.contents_are),
-        written_keeps format old new votes knowledge waits ok.2 ok.0,
-      )
+  after_write (Ok u) votes A B E ok memory full not_free closed = (
+    λ is_open. (ok.0, ap (λ (c : Contents G D). c.floor) ok.2.contents_are),
+    written_keeps format old new votes knowledge waits ok.2 ok.0,
+  )
   after_write (Err NoMemoryToWrite) votes A B E ok memory full not_free closed = as_before (memory refl)
   after_write (Err NoRoomToWrite) votes A B E ok memory full not_free closed = as_before (full refl)
   after_write (Err NotFree) votes A B E ok memory full not_free closed = the_same (not_free refl).0

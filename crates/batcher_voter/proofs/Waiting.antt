@@ -37,19 +37,26 @@ module _ {S D K G C L : Type 0} (x : NodeConfig D K G C) (same : D → D → Boo
   back = same_voting x mid old (sym node) (sym knowledge) (sym contents) (sym is_open)
 
   pub says_still : (s : Subject D) → Says x same old s Sign → Says x same mid s Sign
-  says_still s (opened, (free, within)) =
-      (is_open ∙ opened, (
-        subst (λ (c : Contents G D). IsFree same c.votes s) (sym contents) free,
-        subst (λ (n : NodeView S G D). is_of x.epoch n.window (round_in s) ≡ true) (sym node) within,
-      ))
+  says_still s (opened, (free, within)) = (
+    is_open ∙ opened,
+    (
+      subst (λ (c : Contents G D). IsFree same c.votes s) (sym contents) free,
+      subst (λ (n : NodeView S G D). is_of x.epoch n.window (round_in s) ≡ true) (sym node) within,
+    ),
+  )
 
   pub permits_still :
       (s : Subject D) → ForEachLife x old (Permits x same old s Sign)
       → ForEachLife x mid (Permits x same mid s Sign)
   permits_still s permits past earlier is =
-      let it = permits past earlier (back past earlier is) in
-      (it.0, (it.1.0, subst (λ (k : KnowledgeView D). RestsOnLearned (conduct_of past) k.floor s)
-      (sym knowledge) it.1.1))
+      let it = permits past earlier (back past earlier is) in (
+        it.0,
+        (
+          it.1.0,
+          subst (λ (k : KnowledgeView D). RestsOnLearned (conduct_of past) k.floor s)
+              (sym knowledge) it.1.1,
+        ),
+      )
 
   pub why_still :
       (vote : Vote G D) (fault : CastFault G D) (new : VoterView S G D L)
@@ -72,9 +79,13 @@ module _ {S D K G C L : Type 0} (x : NodeConfig D K G C) (same : D → D → Boo
       (vote : Vote G D) (new : VoterView S G D L) → MayGain vote mid.journal new.journal
       → MayGain vote old.journal new.journal
   gains_still vote new gains still =
-      let it = gains still in
-      (sym is_open ∙ it.0, (it.1.0 ∙ ap (λ (c : Contents G D). c.floor) contents,
-      ⊎_elim
-      (λ e. inl (e ∙ ap (λ (c : Contents G D). c.votes) contents))
-      (λ e. inr (e ∙ ap (λ (c : Contents G D). c.votes ++ vote ∷ []) contents))
-      it.1.1))
+      let it = gains still in (
+        sym is_open ∙ it.0,
+        (
+          it.1.0 ∙ ap (λ (c : Contents G D). c.floor) contents,
+          ⊎_elim
+              (λ e. inl (e ∙ ap (λ (c : Contents G D). c.votes) contents))
+              (λ e. inr (e ∙ ap (λ (c : Contents G D). c.votes ++ vote ∷ []) contents))
+              it.1.1,
+        ),
+      )

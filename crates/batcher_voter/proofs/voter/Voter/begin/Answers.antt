@@ -6,13 +6,13 @@ pub invariant_of-result : goal.invariant_of-result
 invariant_of-result g c = (
   subst (λ s. 1 ≤ length (g.S.Scheme.meaning s).participants) (sym c.in-Ok.ensures.scheme) c.requires,
   (
-      record {
-        of_epoch = c.new.ensures.epoch ∙ sym c.in-Ok.ensures.epoch;
-        from_final = c.new.ensures.floor ∙ sym (ap (λ w. w.finalized) c.in-Ok.ensures.window);
-        floor_is = λ _. sym c.floor-floor.ensures
-            ∙ ap (λ e. numbered e c.floor-floor.result.view.0) (sym c.in-Ok.ensures.epoch)
-            ∙ ap (λ n. numbered c.in-Ok.node.epoch n) (sym (ap (λ w. w.finalized) c.in-Ok.ensures.window));
-      },
+    record {
+      of_epoch = c.new.ensures.epoch ∙ sym c.in-Ok.ensures.epoch;
+      from_final = c.new.ensures.floor ∙ sym (ap (λ w. w.finalized) c.in-Ok.ensures.window);
+      floor_is = λ _. sym c.floor-floor.ensures
+          ∙ ap (λ e. numbered e c.floor-floor.result.view.0) (sym c.in-Ok.ensures.epoch)
+          ∙ ap (λ n. numbered c.in-Ok.node.epoch n) (sym (ap (λ w. w.finalized) c.in-Ok.ensures.window));
+    },
     nothing_keeps (certificate_format g.S.Certificate.OwnedCodec.format g.D.Codec.format) c.args.journal
         c.new.result None c.new.ensures.nothing,
   ),
