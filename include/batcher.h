@@ -43,7 +43,7 @@ enum batcher_code {
     BATCHER_NONE, /* the handle is empty */
     BATCHER_MALFORMED, /* a code or length that means nothing, or a signer that takes no part */
     BATCHER_ELSEWHERE, /* of another round, or of a view outside of the window */
-    BATCHER_OUT_OF_MEMORY, /* all is as it was */
+    BATCHER_OUT_OF_MEMORY, /* all is as it was, but that an own vote may be written: call again */
     BATCHER_LEADER_CHANGED, /* another leader was named before */
     BATCHER_NOT_VERIFIED, /* an own vote that doesn't attest, or whose signer takes no part */
     BATCHER_DUPLICATE_NOTARIZE, /* a notarize of its signer is kept */
@@ -53,7 +53,7 @@ enum batcher_code {
     BATCHER_FINALIZE_AFTER_NULLIFY, /* its signer has nullified before */
     BATCHER_IDLE, /* nothing is to be done, or there is none */
     BATCHER_VERIFY, /* verdicts are wanted on the attestations of the list */
-    BATCHER_STALE, /* the subject or the list isn't what is asked about first, so nothing changed */
+    BATCHER_STALE, /* the subject or the list isn't what is asked about first: none of it is taken in */
     BATCHER_DROPPED, /* of a peer that was blocked before, so it wasn't looked at */
     BATCHER_UNKNOWN, /* of a peer that takes no part, so it wasn't looked at */
     BATCHER_PASSED, /* the view is before the finalized one */
