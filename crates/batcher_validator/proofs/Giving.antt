@@ -10,9 +10,9 @@ use Rattle.batcher_validator.proofs.Words.{AreKept, ForEachRun, GivenView, Gives
 use Rattle.batcher_validator.proofs.Words.{HadVoted, HasAnnouncedFrom, HasAskedFrom, HasForwarded, HasHanded, HasRecast, HasSent, IsVerifying, ValidatorHistory}
 use Rattle.batcher_validator.proofs.Words.{again, answered, nothing_unsigned, calls_in, conduct_in, forward_with, gave, to_forward, voter_history, window_by}
 use Rattle.batcher_validator.proofs.Words.{Counts, HasEntered}
-use Rattle.batcher_validator.proofs.Words.{IsNextIn, NobodyIsToBlock, NothingIsDue, NothingIsPosed, Block, Cast, Enter, Forward, SendCertificate, SendVote}
+use Rattle.batcher_validator.proofs.Words.{IsNextIn, NobodyIsToBlock, NothingIsDue, NothingIsDueMeanwhile, NothingIsProposed, NothingIsToSign}
 use Rattle.batcher_validator.proofs.Words.{Verify, AreDistinct, AreFirst, HaveNoFinal, IsAt, kind_and_round, KnowsOf, BeginWithOneView, IsNextView}
-use Rattle.batcher_validator.proofs.Words.{NothingIsDueMeanwhile, HasVotedIn, IsGrounded, IsOpen, Leads, MayVote, Notarize, proposal_by}
+use Rattle.batcher_validator.proofs.Words.{Block, Cast, Enter, Forward, SendCertificate, SendVote}
 use Rattle.batcher_validator.proofs.Blocking.{blocks_one, not_blocked}
 use Rattle.batcher_validator.proofs.Beginning.{first_none}
 use Rattle.batcher_validator.proofs.Forwarding.{all_forwarded, not_forwarded}
@@ -449,7 +449,7 @@ becomes_calm x old new voter shelf given nothing past earlier is =
       voting = rw (voter) is.voting;
       in_turn = is.in_turn;
       blocks = rw (given) is.blocks;
-      calms = rw (given) (λ yes. (nothing past earlier is).blocks);
+      calms = rw (given) (λ yes. (nothing past earlier is).meanwhile.blocks);
       finals = rw (given) is.finals;
       votes = rw (voter, given) is.votes;
       begins = rw (voter, given) is.begins;
@@ -650,21 +650,14 @@ module _ {S D K G C L : Type 0} (x : NodeConfig D K G C) (old : ValidatorView S 
       ⊎ ((old.voter.knowledge.highest + 1 ≤ old.voter.node.window.current)
       ⊎ (old.voter.knowledge.highest + 1 ≤ old.given.asked))
       → (old.given.verifying ≡ true) ⊎ IsAtRest old.voter.node
-      → ((p : Proposal D) → IsOpen x past p.round.view.0 → Leads past p.round.view.0
-      → p.round.epoch ≡ x.epoch → (HasVotedIn x earlier past p.round → ⊥)
-      → (window_by past).finalized ≤ p.parent.0
-      → IsGrounded (conduct_of (voter_history past)) p → ⊥)
-      → ((p : Proposal D) → IsOpen x past p.round.view.0 → (Leads past p.round.view.0 → ⊥)
-      → proposal_by x past p.round.view.0 ≡ Some p → MayVote x earlier past (Notarize p) → ⊥)
-      → NothingIsDueMeanwhile x earlier past
-  nothing_due_meanwhile opened blocks casts enters verifies proposes judges =
+      → NothingIsProposed x earlier past → NothingIsDueMeanwhile x earlier past
+  nothing_due_meanwhile opened blocks casts enters verifies proposals =
       record {
         blocks = no_block_due blocks;
         enters = no_enter_due enters;
         casts = no_cast_due opened casts;
         verifies = no_verify_due verifies;
-        proposes = proposes;
-        judges = judges;
+        proposals = proposals;
       }
 
   pub nothing_due :
@@ -681,17 +674,15 @@ module _ {S D K G C L : Type 0} (x : NodeConfig D K G C) (old : ValidatorView S 
       ⊎ ((old.voter.knowledge.highest + 1 ≤ old.voter.node.window.current)
       ⊎ (old.voter.knowledge.highest + 1 ≤ old.given.asked))
       → (old.given.verifying ≡ true) ⊎ IsAtRest old.voter.node
-      → NothingIsPosed x earlier past → NothingIsDue x earlier past
-  nothing_due opened blocks finals casts votes certificates forwards enters verifies poses =
+      → NothingIsProposed x earlier past → NothingIsToSign x earlier past
+      → NothingIsDue x earlier past
+  nothing_due opened blocks finals casts votes certificates forwards enters verifies proposals signs =
       record {
-        blocks = no_block_due blocks;
+        meanwhile = nothing_due_meanwhile opened blocks casts enters verifies proposals;
         finals = no_final_due finals;
         learns = λ c counts. all_learned x earlier past is.in_turn c counts.had;
         votes = no_vote_due opened votes;
-        casts = no_cast_due opened casts;
         certificates = no_certificate_due certificates;
         forwards = no_forward_due forwards;
-        enters = no_enter_due enters;
-        verifies = no_verify_due verifies;
-        poses = poses;
+        signs = signs;
       }

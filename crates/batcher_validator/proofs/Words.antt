@@ -93,8 +93,7 @@ pub use Rattle.batcher_validator.specs.Running.{AreFirstVotes, HasConstructed, t
 pub use Rattle.batcher_validator.specs.Shelves.{IsFinalAt, is_from, HaveNoFinal, IsAt, kind_and_round, Shelves, IsLookedAt, ShelvesOne}
 pub use Rattle.batcher_validator.specs.Tasks.{MayGive, IsContested, MaySign, MayVote, AreGivenInTurn, Counts, HasEntered, IsNextIn, NobodyIsToBlock}
 pub use Rattle.batcher_validator.specs.Tasks.{NothingIsDue, NothingIsDueMeanwhile}
-pub use Rattle.batcher_validator.specs.Tasks.{NothingIsPosed, IsOpen, HasVotedIn}
-pub use Rattle.batcher_validator.specs.Histories.{Leads, proposal_by}
+pub use Rattle.batcher_validator.specs.Tasks.{NothingIsProposed, NothingIsToSign, IsOpen}
 pub use Rattle.batcher_validator.specs.Unsigned.{nothing_unsigned, with_refused}
 pub use Rattle.batcher_validator.specs.declared.tally.Tally.{Tally}
 pub use Rattle.batcher_validator.specs.declared.task.Task.{Task}

@@ -189,27 +189,46 @@ module _ {D K G C : Type 0} (x : NodeConfig D K G C) where
         Knows (conduct_of (voter_history past)) (subject_certified c) × AreGivenInTurn past
     AreGivenInTurn (event ∷ past) = AreGivenInTurn past
 
-    -- Of votes and proposals nothing is left.
-    pub record NothingIsPosed (past : ValidatorHistory D K G C) : Type 0 where
-      -- A vote that is wanted and may be signed waits for another that is being signed,
-      pub signs :
-          (s : Subject D) → IsWanted past s → MaySign past s
-          → IsSigning past ⊎ IsContested (conduct_in earlier past) s
-      -- no proposal is to be made,
+    -- No proposal is to be made, and none to be judged.
+    pub record NothingIsProposed (past : ValidatorHistory D K G C) : Type 0 where
       pub proposes :
           (p : Proposal D) → IsOpen past p.round.view.0 → Leads past p.round.view.0
           → p.round.epoch ≡ x.epoch → (HasVotedIn past p.round → ⊥)
           → (window_by past).finalized ≤ p.parent.0
           → IsGrounded (conduct_of (voter_history past)) p → ⊥
-      -- and none to be judged.
       pub judges :
           (p : Proposal D) → IsOpen past p.round.view.0 → (Leads past p.round.view.0 → ⊥)
           → proposal_by x past p.round.view.0 ≡ Some p → MayVote past (Notarize p) → ⊥
 
-    -- Nothing is left to be given.
-    pub record NothingIsDue (past : ValidatorHistory D K G C) : Type 0 where
+    -- A vote that is wanted and may be signed waits for another that is being signed.
+    abbrev pub NothingIsToSign : ValidatorHistory D K G C → Type 0
+    NothingIsToSign past =
+        (s : Subject D) → IsWanted past s → MaySign past s
+        → IsSigning past ⊎ IsContested (conduct_in earlier past) s
+
+    -- What is left waits until the disk has all that was done: all else was given.
+    pub record NothingIsDueMeanwhile (past : ValidatorHistory D K G C) : Type 0 where
       -- Nobody is to be blocked,
       pub blocks : NobodyIsToBlock past
+      -- the next view above the final one was entered, or given to be,
+      pub enters : HasEntered past
+      -- each vote of earlier lives was given to be cast again, but for those before the final view,
+      pub casts :
+          (s : Subject D) → HadVoted earlier past s
+          → is_below (numbered x.epoch (window_by past).finalized) (round_in s) ≡ false
+          → HasRecast past s
+      -- votes that wait are being verified,
+      pub verifies :
+          IsVerifying past
+          ⊎ ((view : ℕ) → (window_by past).finalized ≤ view
+          → is_to_be_tried (view_history view (calls_in past)) ≡ false)
+      -- and no proposal is left.
+      pub proposals : NothingIsProposed past
+
+    -- Nothing is left to be given.
+    pub record NothingIsDue (past : ValidatorHistory D K G C) : Type 0 where
+      -- Nothing is left that is given during a write,
+      pub meanwhile : NothingIsDueMeanwhile past
       -- each finalization that counts was given as final,
       pub finals :
           (c : Certificate C D) → Counts past c → (p : Proposal D)
@@ -220,47 +239,14 @@ module _ {D K G C : Type 0} (x : NodeConfig D K G C) where
           (s : Subject D) → HasVoted (conduct_in earlier past) s
           → is_below (numbered x.epoch (window_by past).finalized) (round_in s) ≡ false
           → HasSent past s
-      -- and those of earlier lives were given to be cast again,
-      pub casts :
-          (s : Subject D) → HadVoted earlier past s
-          → is_below (numbered x.epoch (window_by past).finalized) (round_in s) ≡ false
-          → HasRecast past s
       -- each certificate that counts is known,
       pub learns :
           (c : Certificate C D) → Counts past c
           → Knows (conduct_of (voter_history past)) (subject_certified c)
       -- one of the kind and the round of each was given to be sent,
       pub certificates : (c : Certificate C D) → Counts past c → HasHanded past (kind_and_round c)
-      -- and what the notarizations among them notarize to be forwarded,
+      -- what the notarizations among them notarize was given to be forwarded,
       pub forwards :
           (number : Round) → HasHanded past (Notarization, number) → HasForwarded past number
-      -- the next view above the final one was entered, or given to be,
-      pub enters : HasEntered past
-      -- votes that wait are being verified,
-      pub verifies :
-          IsVerifying past
-          ⊎ ((view : ℕ) → (window_by past).finalized ≤ view
-          → is_to_be_tried (view_history view (calls_in past)) ≡ false)
-      -- and of votes and proposals nothing is left.
-      pub poses : NothingIsPosed past
-
-    -- What is left waits until the disk has all that was done: all else was given.
-    pub record NothingIsDueMeanwhile (past : ValidatorHistory D K G C) : Type 0 where
-      pub blocks : NobodyIsToBlock past
-      pub enters : HasEntered past
-      pub casts :
-          (s : Subject D) → HadVoted earlier past s
-          → is_below (numbered x.epoch (window_by past).finalized) (round_in s) ≡ false
-          → HasRecast past s
-      pub verifies :
-          IsVerifying past
-          ⊎ ((view : ℕ) → (window_by past).finalized ≤ view
-          → is_to_be_tried (view_history view (calls_in past)) ≡ false)
-      pub proposes :
-          (p : Proposal D) → IsOpen past p.round.view.0 → Leads past p.round.view.0
-          → p.round.epoch ≡ x.epoch → (HasVotedIn past p.round → ⊥)
-          → (window_by past).finalized ≤ p.parent.0
-          → IsGrounded (conduct_of (voter_history past)) p → ⊥
-      pub judges :
-          (p : Proposal D) → IsOpen past p.round.view.0 → (Leads past p.round.view.0 → ⊥)
-          → proposal_by x past p.round.view.0 ≡ Some p → MayVote past (Notarize p) → ⊥
+      -- and nothing is to be signed.
+      pub signs : NothingIsToSign past

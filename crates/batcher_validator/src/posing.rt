@@ -21,7 +21,7 @@ ghost use Rattle.batcher_validator.specs.Posing.{IsNotToSign, IsProposalNow, IsP
 ghost use Rattle.batcher_validator.specs.Posing.{Signs, SignsNothing};
 ghost use Rattle.batcher_validator.specs.Running.{ForEachRun, Gives, IsReadyTask};
 ghost use Rattle.batcher_validator.specs.Tasks.{IsGivenMeanwhile, MaySign, MayVote};
-ghost use Rattle.batcher_validator.specs.Tasks.{NothingIsPosed};
+ghost use Rattle.batcher_validator.specs.Tasks.{NothingIsProposed, NothingIsToSign};
 ghost use Rattle.batcher_validator.specs.Unsigned.{is_unsigned};
 ghost use Rattle.batcher_voter.specs.Knowledge.{learned_at};
 ghost use Rattle.batcher_voter.specs.Voting.{ForEachLife, IsFinalizable, Permits, Says};
@@ -48,9 +48,12 @@ where
         ensures gives { IfSome result
             (Gives (⟦<S as NodeConfigs<D>>⟧.of self.old.voter.node) self.old self.new) }
         ensures ready { IfSome result (IsReadyTask self.old) }
-        ensures nothing { result ≡ None → ForEachRun
+        ensures signs { result ≡ None → ForEachRun
             (⟦<S as NodeConfigs<D>>⟧.of self.old.voter.node) self.old (λ past earlier.
-            NothingIsPosed (⟦<S as NodeConfigs<D>>⟧.of self.old.voter.node) earlier past) }
+            NothingIsToSign (⟦<S as NodeConfigs<D>>⟧.of self.old.voter.node) earlier past) }
+        ensures proposes { result ≡ None → ForEachRun
+            (⟦<S as NodeConfigs<D>>⟧.of self.old.voter.node) self.old (λ past earlier.
+            NothingIsProposed (⟦<S as NodeConfigs<D>>⟧.of self.old.voter.node) earlier past) }
         ensures same { result ≡ None → self.new ≡ self.old }
         ensures voter { self.new.voter ≡ self.old.voter }
         ensures less { IfSome result
@@ -72,8 +75,9 @@ where
             (Gives (⟦<S as NodeConfigs<D>>⟧.of self.old.voter.node) self.old self.new) }
         ensures ready { IfSome result (IsReadyTask self.old) }
         ensures meanwhile { IfSome result IsGivenMeanwhile }
-        ensures proposes { result ≡ None → IsNotToPropose ⟦<S as NodeConfigs<D>>⟧.of self.old }
-        ensures judges { result ≡ None → IsNotToJudge ⟦<S as NodeConfigs<D>>⟧.of self.old }
+        ensures nothing { result ≡ None → ForEachRun
+            (⟦<S as NodeConfigs<D>>⟧.of self.old.voter.node) self.old (λ past earlier.
+            NothingIsProposed (⟦<S as NodeConfigs<D>>⟧.of self.old.voter.node) earlier past) }
         ensures same { result ≡ None → self.new ≡ self.old }
         ensures voter { self.new.voter ≡ self.old.voter }
         ensures less { IfSome result

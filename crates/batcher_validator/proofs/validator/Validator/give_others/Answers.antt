@@ -51,7 +51,8 @@ returns-else-has_votes_waiting-clause-nothing g c = λ none past earlier is.
     (c.next_certificate.ensures.none c.in-None.is) c.requires.no_forward c.requires.no_view
     (subst (λ v. (v.given.verifying ≡ true) ⊎ IsAtRest v.voter.node)
     (c.pose.ensures.same c.in-None-pose.is) c.if-has_votes_waiting.ensures)
-    (c.pose.ensures.nothing c.in-None-pose.is past earlier is)
+    (c.pose.ensures.proposes c.in-None-pose.is past earlier is)
+    (c.pose.ensures.signs c.in-None-pose.is past earlier is)
 
 pub returns-else-has_votes_waiting-clause-rests : goal.returns-else-has_votes_waiting-clause-rests
 returns-else-has_votes_waiting-clause-rests g c = λ none.

@@ -31,5 +31,4 @@ returns-else-has_votes_waiting-clause-nothing g c = λ none past earlier is.
     c.requires.no_view
     (subst (λ v. (v.given.verifying ≡ true) ⊎ IsAtRest v.voter.node)
     (c.pose_proposal.ensures.same c.in-None.is) c.if-has_votes_waiting.ensures)
-    (c.pose_proposal.ensures.proposes c.in-None.is past earlier is)
-    (c.pose_proposal.ensures.judges c.in-None.is past earlier is)
+    (c.pose_proposal.ensures.nothing c.in-None.is past earlier is)
