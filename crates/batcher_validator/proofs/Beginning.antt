@@ -89,6 +89,7 @@ module _ {S D K G C L : Type 0} (x : NodeConfig D K G C) (validator : ValidatorV
           chosen = None;
           posed = 0;
         };
+        decided = record { first = 0; end = 0 };
       }
       → validator.shelf.certificates ≡ [] → validator.shelf.handed ≡ 0
       → (has : HasStarted x earlier validator.voter)
@@ -129,6 +130,7 @@ module _ {S D K G C L : Type 0} (x : NodeConfig D K G C) (validator : ValidatorV
           chooses = refl;
           poses = refl;
         };
+        decides = rw (given) (λ view from before. absurd (omega (arith, before)));
       }
 
 -- It takes in what its disk has.

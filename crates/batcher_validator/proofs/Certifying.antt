@@ -27,7 +27,7 @@ module _ {S D K G C : Type 0} (meaning : S → Meaning D K G C) (compare_keys : 
   abbrev config : NodeView S G D → NodeConfig D K G C
   config = node_config meaning compare_keys same_signature same_digest
 
-  config_same : (old new : NodeView S G D) → SameNode old new → config new ≡ config old
+  pub config_same : (old new : NodeView S G D) → SameNode old new → config new ≡ config old
   config_same old new same =
       ap (λ s. made s new.epoch new.retains) same.0
       ∙ ap (λ e. made old.scheme e new.retains) same.1

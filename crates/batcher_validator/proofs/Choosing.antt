@@ -37,6 +37,7 @@ module _ {S D K G C L : Type 0} (x : NodeConfig D K G C) (old new : ValidatorVie
             chooses = ap (λ before. later_of before p) is.intends.chooses;
             poses = is.intends.poses;
           };
+          decides = rw (given) is.decides;
         }
 
     pub expires :
@@ -67,6 +68,7 @@ module _ {S D K G C L : Type 0} (x : NodeConfig D K G C) (old new : ValidatorVie
             chooses = is.intends.chooses;
             poses = is.intends.poses;
           };
+          decides = rw (given) is.decides;
         }
 
     pub refuses :
@@ -97,6 +99,7 @@ module _ {S D K G C L : Type 0} (x : NodeConfig D K G C) (old new : ValidatorVie
             chooses = is.intends.chooses;
             poses = is.intends.poses;
           };
+          decides = rw (given) is.decides;
         }
 
     pub signs :
@@ -125,6 +128,7 @@ module _ {S D K G C L : Type 0} (x : NodeConfig D K G C) (old new : ValidatorVie
             chooses = is.intends.chooses;
             poses = is.intends.poses;
           };
+          decides = rw (given) is.decides;
         }
 
     pub proposes :
@@ -154,6 +158,7 @@ module _ {S D K G C L : Type 0} (x : NodeConfig D K G C) (old new : ValidatorVie
             chooses = is.intends.chooses;
             poses = refl;
           };
+          decides = rw (given) is.decides;
         }
 
     pub judges :
@@ -182,4 +187,5 @@ module _ {S D K G C L : Type 0} (x : NodeConfig D K G C) (old new : ValidatorVie
             chooses = is.intends.chooses;
             poses = refl;
           };
+          decides = rw (given) is.decides;
         }

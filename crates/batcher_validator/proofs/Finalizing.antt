@@ -100,6 +100,7 @@ module _ {S D K G C L : Type 0} (x : NodeConfig D K G C) (old new : ValidatorVie
             forwards = rw (given) moved.forwards;
             intends = rw (given) (still_intent Before (gave (Final p) ∷ Before) old.given.intent refl refl refl refl refl refl
                 moved.intends);
+            decides = rw (given) moved.decides;
           }
         where
           window : max (window_by past).finalized p.round.view.0 ≡ p.round.view.0

@@ -130,6 +130,7 @@ module _ {S D K G C L : Type 0} (x : NodeConfig D K G C) (old new : ValidatorVie
           forwards = rw (given) is.forwards;
           intends = rw (given) (still_intent past (gave (SendVote vote) ∷ past) old.given.intent refl refl refl refl refl refl
               is.intends);
+          decides = rw (given) is.decides;
         }
       where
         first : AreFirst subject_of (is_over_for floor) (λ s. HasSent past s) votes count
@@ -170,6 +171,7 @@ module _ {S D K G C L : Type 0} (x : NodeConfig D K G C) (old new : ValidatorVie
           forwards = rw (given) is.forwards;
           intends = rw (given) (still_intent past (gave (Cast vote) ∷ past) old.given.intent refl refl refl refl refl refl
               is.intends);
+          decides = rw (given) is.decides;
         }
       where
         first : AreFirst subject_of (is_over_for floor) (λ s. HasRecast past s) votes count
@@ -219,6 +221,7 @@ module _ {S D K G C L : Type 0} (x : NodeConfig D K G C) (old new : ValidatorVie
         forwards = rw (given) (ap (forward_with kind number) is.forwards);
         intends = rw (given) (still_intent past (gave (SendCertificate kind number) ∷ past) old.given.intent refl refl refl refl refl refl
             is.intends);
+        decides = rw (given) is.decides;
       }
     where
       c : Certificate C D
@@ -274,6 +277,7 @@ module _ {S D K G C L : Type 0} (x : NodeConfig D K G C) (old new : ValidatorVie
           forwards = rw (given) is.forwards;
           intends = rw (given) (still_intent past (gave (Block who cause) ∷ past) old.given.intent refl refl refl refl refl refl
               is.intends);
+          decides = rw (given) is.decides;
         }
 
     pub gives_enter :
@@ -316,6 +320,7 @@ module _ {S D K G C L : Type 0} (x : NodeConfig D K G C) (old new : ValidatorVie
           forwards = rw (given) is.forwards;
           intends = rw (given) (still_intent past (gave (Enter view) ∷ past) old.given.intent refl refl refl refl refl refl
               is.intends);
+          decides = rw (given) is.decides;
         }
       where
         is_next : IsNextIn x past view.0
@@ -353,6 +358,7 @@ module _ {S D K G C L : Type 0} (x : NodeConfig D K G C) (old new : ValidatorVie
           forwards = rw (given) is.forwards;
           intends = rw (given) (still_intent past (gave Verify ∷ past) old.given.intent refl refl refl refl refl refl
               is.intends);
+          decides = rw (given) is.decides;
         }
 
     pub gives_forward :
@@ -380,6 +386,7 @@ module _ {S D K G C L : Type 0} (x : NodeConfig D K G C) (old new : ValidatorVie
           forwards = rw (given) refl;
           intends = rw (given) (still_intent past (gave (Forward number) ∷ past) old.given.intent refl refl refl refl refl refl
               is.intends);
+          decides = rw (given) is.decides;
         }
 
     -- votes were verified, or all is to be sent again
@@ -404,6 +411,7 @@ module _ {S D K G C L : Type 0} (x : NodeConfig D K G C) (old new : ValidatorVie
           forwards = rw (given) is.forwards;
           intends = rw (given) (still_intent past (answered ∷ past) old.given.intent refl refl refl refl refl refl
               is.intends);
+          decides = rw (given) is.decides;
         }
 
   pub begins_again :
@@ -437,6 +445,7 @@ module _ {S D K G C L : Type 0} (x : NodeConfig D K G C) (old new : ValidatorVie
           chooses = is.intends.chooses;
           poses = is.intends.poses;
         };
+        decides = rw (given) is.decides;
       }
 
 -- It is calm, where nothing is due.
@@ -460,6 +469,7 @@ becomes_calm x old new voter shelf given nothing past earlier is =
       verifies = rw (given) is.verifies;
       forwards = rw (given) is.forwards;
       intends = rw (given) is.intends;
+      decides = rw (given) is.decides;
     }
 
 module _ {S D K G C L : Type 0} (x : NodeConfig D K G C) (old : ValidatorView S G D L C)

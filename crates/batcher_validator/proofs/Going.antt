@@ -2,7 +2,7 @@
 use Rattle.batcher_validator.proofs.Words.{◌≡◌, ◌⊎◌, ◌++◌, ◌∙◌, ℕ, Bool, true, false, not, List, [], ◌∷◌, Option, Some, None, ap, inl, inr, refl, subst, sym}
 use Rattle.batcher_validator.proofs.Words.{take, MatchBool, unwrap_or, count_by, filter, option_or, certifies_itself, round_in, subject_of, Certificate}
 use Rattle.batcher_validator.proofs.Words.{Subject, Vote, Round, VoterEvent, VoterHistory, called, held_by, verified, Conduct, is_below, is_over, JournalView}
-use Rattle.batcher_validator.proofs.Words.{still_over}
+use Rattle.batcher_validator.proofs.Words.{numbered, still_over}
 use Rattle.batcher_validator.proofs.Words.{NodeEvent, cause_by, cause_in, constructed, window_after, NodeConfig, NodeView, Window, AreFirst, AreFirstVotes}
 use Rattle.batcher_validator.proofs.Words.{AreKept, HasConstructed, IsRunning, RunMeets, RunStays, RunTakes, ValidatorView, tallied, is_before_view}
 use Rattle.batcher_validator.proofs.Words.{is_over_for, Shelves}
@@ -12,6 +12,7 @@ use Rattle.batcher_validator.proofs.Words.{window_by, AreGivenInTurn, IsRaised, 
 use Rattle.batcher_validator.proofs.Intending.{intent_more, still_intent}
 use Rattle.batcher_validator.proofs.Keeping.{first_with, kept_still, kept_with}
 use Rattle.batcher_validator.proofs.Queueing.{leave, put_behind}
+use Rattle.batcher_validator.proofs.Settling.{decided_more}
 
 -- What its voter did gave nothing.
 module _ {D K G C : Type 0} (Was Is : ValidatorHistory D K G C → Type 0)
@@ -145,6 +146,8 @@ module _ {S D K G C L : Type 0} (x : NodeConfig D K G C) (old new : ValidatorVie
         verifies = rw (given) (verifies_more more past old.given.verifying is.verifies);
         forwards = rw (given) (to_forward_more more past ∙ is.forwards);
         intends = rw (given) (intent_more more past old.given.intent is.intends);
+        decides = rw (given) (λ view from before.
+            decided_more earlier more past (numbered x.epoch view) (is.decides view from before));
       }
     where
       -- of a history with more
@@ -366,6 +369,7 @@ module _ {S D K G C L : Type 0} (x : NodeConfig D K G C) (old roomy : ValidatorV
         verifies = rw (given) is.verifies;
         forwards = rw (given) is.forwards;
         intends = rw (given) is.intends;
+        decides = rw (given) is.decides;
       }
 
 module _ {S D K G C L : Type 0} (config : NodeView S G D → NodeConfig D K G C)
@@ -475,6 +479,7 @@ module _ {S D K G C L : Type 0} (x : NodeConfig D K G C) (old mid new : Validato
           forwards = learned_here.forwards;
           intends = still_intent Verified (took c ∷ Verified) old.given.intent refl refl refl refl refl refl
               learned_here.intends;
+          decides = learned_here.decides;
         }
       where
         had : (d : Certificate C D) → HasHad (took c ∷ Verified) d → HasHad Verified d

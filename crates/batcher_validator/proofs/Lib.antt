@@ -5,6 +5,7 @@ pub mod Lending
 pub mod Keeping
 pub mod Intending
 pub mod Looking
+pub mod Settling
 pub mod Going
 pub mod Signing
 pub mod Blocking

@@ -85,6 +85,7 @@ pub use Rattle.batcher_validator.specs.Histories.{window_by, calls_in, HasHad, H
 pub use Rattle.batcher_validator.specs.Histories.{HasAnnouncedFrom, HasAskedFrom, HasRecast, HasSent, IsVerifying, answered, ValidatorEvent, only_did, took}
 pub use Rattle.batcher_validator.specs.Histories.{chosen_in, expired_in, last_to_sign, me_in, posed_in, refused, unsigned_in}
 pub use Rattle.batcher_validator.specs.Posing.{CannotSign, CannotVote, IsNotToSign, Grounds, HasCast, HasNotCast, IsNotToPropose}
+pub use Rattle.batcher_validator.specs.Decisions.{AreDecided, HasDecided}
 pub use Rattle.batcher_validator.specs.Queues.{AreFirst, AreDistinct, HasKey}
 pub use Rattle.batcher_validator.specs.Recalling.{Recalls, IsAtPlace}
 pub use Rattle.batcher_validator.specs.Running.{HasBegun, HasCertificate, IsRunning, ValidatorView, is_over_for, AreBlocked, blocks_sender, IntentView}
@@ -95,6 +96,7 @@ pub use Rattle.batcher_validator.specs.Tasks.{MayGive, IsContested, MaySign, May
 pub use Rattle.batcher_validator.specs.Tasks.{NothingIsDue, NothingIsDueMeanwhile}
 pub use Rattle.batcher_validator.specs.Tasks.{NothingIsProposed, NothingIsToSign, IsOpen}
 pub use Rattle.batcher_validator.specs.Unsigned.{nothing_unsigned, with_refused}
+pub use Rattle.batcher_validator.specs.declared.decided.Decided.{Decided}
 pub use Rattle.batcher_validator.specs.declared.tally.Tally.{Tally}
 pub use Rattle.batcher_validator.specs.declared.task.Task.{Task}
 pub use Rattle.batcher_validator.specs.declared.task.Task.TheVariants.{Block, Judge, Propose, Sign, Final, SendVote, Forward, SendCertificate, Cast, Enter}

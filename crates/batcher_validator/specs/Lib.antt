@@ -2,6 +2,7 @@ pub mod Unsigned
 pub mod Histories
 pub mod Tasks
 pub mod Queues
+pub mod Decisions
 pub mod Shelves
 pub mod Running
 pub mod Posing

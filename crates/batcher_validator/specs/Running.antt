@@ -33,6 +33,7 @@ use Rattle.batcher_node.specs.declared.answers.Cast.{Cast}
 use Rattle.batcher_node.specs.declared.answers.Cast.TheVariants.{ToSend, Known as KnownVote}
 use Rattle.batcher_node.specs.declared.answers.Cast.TheVariants.{Outside as OutsideVote}
 use Rattle.batcher_validator.specs.Queues.{AreFirst, HasKey}
+use Rattle.batcher_validator.specs.Decisions.{AreDecided}
 use Rattle.batcher_validator.specs.Shelves.{IsLookedAt, ShelfView, kind_and_round}
 use Rattle.batcher_validator.specs.Histories.{HadVoted, HasAnnouncedFrom, HasAskedFrom, HasBlocked}
 use Rattle.batcher_validator.specs.Histories.{HasHanded, HasRecast, HasSent, IsVerifying}
@@ -42,6 +43,7 @@ use Rattle.batcher_validator.specs.Histories.{last_to_sign, me_in, only_did, onl
 use Rattle.batcher_validator.specs.Histories.{to_forward, took, unsigned_in, voter_history}
 use Rattle.batcher_validator.specs.Histories.{window_by}
 use Rattle.batcher_validator.specs.Tasks.{AreGivenInTurn, Counts, NobodyIsToBlock}
+use Rattle.batcher_validator.specs.declared.decided.Decided.{Decided}
 use Rattle.batcher_validator.specs.declared.tally.Tally.{Tally}
 use Rattle.batcher_validator.specs.declared.task.Task.{Task}
 use Rattle.batcher_validator.specs.declared.task.Task.TheVariants.{Cast as CastAgain, Final}
@@ -85,6 +87,8 @@ pub record GivenView (D : Type 0) : Type 0 where
   -- the round of the notarization that was given to be sent, of which nothing was forwarded yet
   pub forwarding : Option Round
   pub intent : IntentView D
+  -- views in which it has voted to finalize or to nullify, as far as is noted
+  pub decided : Decided
 
 -- With scheme S, signatures G, digests D, log L and certificates C.
 pub record ValidatorView (S G D L C : Type 0) : Type 0 where
@@ -226,6 +230,7 @@ module _ {S D K G C L : Type 0} (x : NodeConfig D K G C) where
     pub verifies : MatchBool validator.given.verifying (IsVerifying past) (IsVerifying past → ⊥)
     pub forwards : to_forward past ≡ validator.given.forwarding
     pub intends : IsIntent past validator.given.intent
+    pub decides : AreDecided (conduct_in earlier past) x.epoch validator.given.decided
 
   -- A validator that was made from its journal took in what that has, gave nothing, and asked its
   -- node nothing. It votes as whom the journal says.

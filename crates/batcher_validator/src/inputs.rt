@@ -476,7 +476,10 @@ where
             self.new.voter.journal.log }
     {
         match self.call_enter(view, leader) {
-            Ok(()) => Ok(()),
+            Ok(()) => {
+                self.settle();
+                Ok(())
+            }
             Err(fault) => Err(fault),
         }
     }

@@ -6,6 +6,7 @@ mod announcing;
 mod answering;
 mod casting;
 mod concluding;
+mod decided;
 mod due;
 mod inputs;
 mod looping;

@@ -12,14 +12,16 @@ ghost use Rattle.batcher_agreement.specs.Lives.{conduct_of};
 ghost use Rattle.batcher_agreement.specs.Policy.{IsGrounded, Knows};
 ghost use Rattle.batcher_journal.specs.Contradictions.{IsFree};
 ghost use Rattle.batcher_node.specs.Windows.{is_of, numbered};
+ghost use Rattle.batcher_validator.specs.Decisions.{AreDecided, HasDecided};
 ghost use Rattle.batcher_validator.specs.Ending.{IsPreferred, HasLessLeft, WaitsForVote};
+ghost use Rattle.batcher_validator.specs.Histories.{conduct_in};
 ghost use Rattle.batcher_validator.specs.Posing.{CanLead, CanPose, CanSign, CanVote, CannotLead};
 ghost use Rattle.batcher_validator.specs.Posing.{CannotPose, CannotSign, CannotVote, Grounds};
 ghost use Rattle.batcher_validator.specs.Posing.{HasCast, HasNotCast};
 ghost use Rattle.batcher_validator.specs.Posing.{IsLeader, IsNotToJudge, IsNotToPropose};
 ghost use Rattle.batcher_validator.specs.Posing.{IsNotToSign, IsProposalNow, IsProposed, IsToSign};
 ghost use Rattle.batcher_validator.specs.Posing.{Signs, SignsNothing};
-ghost use Rattle.batcher_validator.specs.Running.{ForEachRun, Gives, IsReadyTask};
+ghost use Rattle.batcher_validator.specs.Running.{ForEachRun, Gives, IsReadyTask, RunStays};
 ghost use Rattle.batcher_validator.specs.Tasks.{IsGivenMeanwhile, MaySign, MayVote};
 ghost use Rattle.batcher_validator.specs.Tasks.{NothingIsProposed, NothingIsToSign};
 ghost use Rattle.batcher_validator.specs.Unsigned.{is_unsigned};
@@ -27,6 +29,7 @@ ghost use Rattle.batcher_voter.specs.Knowledge.{learned_at};
 ghost use Rattle.batcher_voter.specs.Voting.{ForEachLife, IsFinalizable, Permits, Says};
 ghost use Rattle.batcher_voter.specs.declared.answers.Permission.TheVariants.{Sign};
 
+use crate::decided::Decided;
 use crate::task::Task;
 use crate::unsigned::Unsigned;
 use crate::validator::Validator;
@@ -251,13 +254,93 @@ where
             → IsNotToSign ⟦<S as NodeConfigs<D>>⟧.of self.now (Finalize p) }
     {
         self.begins();
-        for view in self.final_view()..=self.highest() {
+        for view in self.decided().end..=self.highest() {
             match self.to_finalize_in(View(view)) {
                 Some(proposal) => return Some(proposal),
                 None => {}
             }
         }
         None
+    }
+
+    // The views from the final one on of which is noted that it has voted to finalize or to
+    // nullify. So it finalizes nothing else there.
+    fn decided(&self) -> Decided
+        ensures first { result.first ≡ self.now.voter.node.window.finalized }
+        ensures within { result.first ≤ result.end }
+        ensures decides { ForEachRun (⟦<S as NodeConfigs<D>>⟧.of self.now.voter.node) self.now
+            (λ past earlier. AreDecided (conduct_in earlier past)
+            self.now.voter.node.epoch result) }
+    {
+        let noted = self.noted();
+        let first = self.final_view();
+        if noted.first <= first && first < noted.end {
+            return Decided {
+                first,
+                end: noted.end,
+            };
+        }
+        Decided { first, end: first }
+    }
+
+    fn noted(&self) -> Decided
+        ensures { result ≡ self.now.given.decided }
+    {
+        self.given.decided
+    }
+
+    // Notes in which views from the final one on it has voted to finalize or to nullify, one behind
+    // the other.
+    pub(crate) fn settle(&mut self)
+        ensures stays { RunStays (⟦<S as NodeConfigs<D>>⟧.of self.old.voter.node) self.old
+            self.new }
+        ensures voter { self.new.voter ≡ self.old.voter }
+    {
+        let noted = self.decided();
+        let end = self.decided_until(noted.end);
+        self.note_decided(Decided {
+            first: noted.first,
+            end,
+        });
+    }
+
+    fn note_decided(&mut self, decided: Decided)
+        ensures given { self.new.given ≡ record self.old.given { decided = decided } }
+        ensures voter { self.new.voter ≡ self.old.voter }
+        ensures shelf { self.new.shelf ≡ self.old.shelf }
+    {
+        self.given.decided = decided;
+    }
+
+    // The first view from this one on, before the current one, in which it hasn't.
+    fn decided_until(&self, first: u64) -> u64
+        ensures { ForEachRun (⟦<S as NodeConfigs<D>>⟧.of self.now.voter.node) self.now
+            (λ past earlier. AreDecided (conduct_in earlier past) self.now.voter.node.epoch
+            (record { first = first; end = result })) }
+    {
+        for view in first..self.current() {
+            if !self.has_decided(View(view)) {
+                return view;
+            }
+        }
+        self.current()
+    }
+
+    // Whether it has in a view.
+    fn has_decided(&self, view: View) -> bool
+        ensures decides { result ≡ true → ForEachRun
+            (⟦<S as NodeConfigs<D>>⟧.of self.now.voter.node) self.now
+            (λ past earlier. HasDecided (conduct_in earlier past)
+            (numbered self.now.voter.node.epoch view.0)) }
+    {
+        let round = self.round_of(view);
+        match self.ask(&Subject::Nullify { round }) {
+            Permission::Known(_) => true,
+            Permission::Refused(_) => true,
+            Permission::Sign => false,
+            Permission::Outside => false,
+            Permission::Closed => false,
+        }
     }
 
     // The same of a view.

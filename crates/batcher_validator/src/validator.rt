@@ -11,6 +11,7 @@ ghost use Rattle.batcher_validator.specs.Unsigned.{nothing_unsigned};
 ghost use Rattle.batcher_voter.specs.Remembering.{Remembers};
 ghost use Rattle.batcher_voter.specs.Reopening.{IsFinalView, IsTakenIn};
 
+use crate::decided::Decided;
 use crate::shelf::Shelf;
 use crate::tally::Tally;
 use crate::unsigned::Unsigned;
@@ -74,6 +75,8 @@ pub(crate) struct Given<D: Digest> {
     // The round of the notarization that was given to be sent, of which nothing was forwarded yet.
     pub(crate) forwarding: Option<Round>,
     pub(crate) intent: Intent<D>,
+    // Views in which it has voted to finalize or to nullify, as far as is noted.
+    pub(crate) decided: Decided,
 }
 
 impl<D: Digest> Model for Given<D> {
@@ -90,6 +93,7 @@ impl<D: Digest> Model for Given<D> {
       verifying = g.verifying;
       forwarding = g.forwarding;
       intent = g.intent;
+      decided = g.decided;
     } };
 }
 
@@ -217,6 +221,7 @@ where
             chosen = None;
             posed = 0;
           };
+          decided = record { first = 0; end = 0 };
         } }
         ensures empty { result.shelf.certificates ≡ [] }
         ensures handed { result.shelf.handed ≡ 0 }
@@ -243,6 +248,7 @@ where
                     chosen: None,
                     posed: 0,
                 },
+                decided: Decided { first: 0, end: 0 },
             },
             shelf: Shelf::new(alloc),
         }

@@ -1,12 +1,19 @@
-use Rattle.batcher_validator.proofs.Words.{◌≡◌, arith, refl, Proposal, Finalize, node_config, IsNotToSign}
+use Rattle.batcher_validator.proofs.Words.{◌≡◌, arith, cases_lt, inl, inr, refl, Proposal, Finalize, node_config, IsNotToSign}
 use Rattle.batcher_validator.proofs.Deciding.{all_views, before_final, one_more}
+use Rattle.batcher_validator.proofs.Settling.{decided_not_signed}
 use Rattle.batcher_validator.proofs.validator.Validator.next_to_finalize.Goals.{else-loop-view-test, then-loop-view-test+in-None+else-view-view-end}
 use Rattle.batcher_validator.proofs.validator.Validator.next_to_finalize.Goals as goal
 
 pub loop-view-init : goal.loop-view-init
 loop-view-init g c = λ k lt.
-    before_final (node_config g.S.Scheme.meaning g.S.PublicKey.Ord.cmp g.S.Signature.PartialEq.eq g.D.PartialEq.eq)
-    c.args.self.now k (omega (arith, lt, c.final_view-view.ensures))
+    let config = node_config g.S.Scheme.meaning g.S.PublicKey.Ord.cmp g.S.Signature.PartialEq.eq g.D.PartialEq.eq in
+    let old = c.args.self.now in
+    elim (cases_lt k old.voter.node.window.finalized) [
+      | inl below ↦ before_final config old k below
+      | inr from ↦ decided_not_signed config old refl k
+          (λ past earlier is. c.decided-view.ensures.decides past earlier is k
+          (omega (arith, from, c.decided-view.ensures.first)) lt)
+    ]
 
 pub loop-view-preserved : goal.loop-view-preserved
 loop-view-preserved g c =
