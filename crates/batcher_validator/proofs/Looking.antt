@@ -2,8 +2,8 @@
 use Rattle.batcher_validator.proofs.Words.{◌≡◌, ◌⊎◌, ◌+◌, ◌<◌, ◌≤◌, ◌∙◌, ℕ, true, false, List, [], ◌∷◌, Option, Some, None, ap, arith, get_or, inl, inr, length}
 use Rattle.batcher_validator.proofs.Words.{subst, sym, take, Contains, IfSome, unwrap_or, slice_get, take_all, Contains-append_cases, slice_get-get_or}
 use Rattle.batcher_validator.proofs.Words.{subject_certified, Certificate, Proposal, Subject, Finalize, Notarize, Nullify, Round, IsAtRest, IsNext, NodeView}
-use Rattle.batcher_validator.proofs.Words.{HaveNoFinal, IsFinalAt}
-use Rattle.batcher_validator.proofs.Queueing.{contains_one, one_more}
+use Rattle.batcher_validator.proofs.Words.{◌++◌, Bool, filter, max, HaveNoFinal, IsFinalAt}
+use Rattle.batcher_validator.proofs.Queueing.{contains_one, left_are, one_more}
 
 module _ {X : Type 0} where
   pub read_at : (xs : List X) (i : ℕ) (x : X) → i < length xs → x ≡ get_or xs i x
@@ -54,6 +54,25 @@ pub none_after_all :
     {C D : Type 0} (view : ℕ) (kept : List (Certificate C D)) (i : ℕ) → length kept ≤ i
     → HaveNoFinal view (take i kept) → HaveNoFinal view kept
 none_after_all view kept i le none = subst (HaveNoFinal view) (take_all i kept le) none
+
+-- What comes behind them is of a view up to this one, or isn't a finalization.
+pub none_after_with :
+    {C D : Type 0} (last view : ℕ) (kept : List (Certificate C D)) (it : Certificate C D)
+    → HaveNoFinal last kept
+    → ((p : Proposal D) → subject_certified it ≡ Finalize p → p.round.view.0 ≤ view)
+    → HaveNoFinal (max last view) (kept ++ it ∷ [])
+none_after_with last view kept it none next c there p is_of =
+    elim (Contains-append_cases kept (it ∷ []) c there) [
+      | inl before ↦ omega (arith, none c before p is_of)
+      | inr one ↦ omega (arith, next p (ap subject_certified (contains_one it c one) ∙ is_of))
+    ]
+
+-- and so it is of those that are left
+pub none_after_left :
+    {C D : Type 0} (last : ℕ) (is_left : Certificate C D → Bool) (kept : List (Certificate C D))
+    → HaveNoFinal last kept → HaveNoFinal last (filter is_left kept)
+none_after_left last is_left kept none c there p is_of =
+    none c (left_are is_left kept c there) p is_of
 
 pub none_after_first :
     {C D : Type 0} (view : ℕ) (kept : List (Certificate C D)) → HaveNoFinal view (take 0 kept)

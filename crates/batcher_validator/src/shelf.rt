@@ -23,13 +23,15 @@ pub(crate) struct Shelf<C: Drop, D: Digest> {
     certificates: Vec<Certificate<C, D>>,
     // How many of them were given to be sent.
     handed: usize,
+    // No finalization is of a view after this one.
+    last_final: u64,
 }
 
 impl<C: Drop, D: Digest> Model for Shelf<C, D> {
     ghost use Rattle.std.specs.Prelude.{◌-◌, length};
     ghost use Rattle.std.specs.Vec.{vec_capacity};
     ghost use Rattle.batcher_validator.specs.Queues.{AreDistinct};
-    ghost use Rattle.batcher_validator.specs.Shelves.{ShelfView, kind_and_round};
+    ghost use Rattle.batcher_validator.specs.Shelves.{HaveNoFinal, ShelfView, kind_and_round};
 
     ghost Value = { ShelfView C D };
 
@@ -39,7 +41,8 @@ impl<C: Drop, D: Digest> Model for Shelf<C, D> {
       room = vec_capacity s.certificates - length s.certificates.items;
     } };
 
-    ghost invariant = { λ s. AreDistinct kind_and_round s.certificates.items };
+    ghost invariant = { λ s. AreDistinct kind_and_round s.certificates.items
+        × HaveNoFinal s.last_final s.certificates.items };
 }
 
 impl<C: Drop, D: Digest> Shelf<C, D> {
@@ -50,6 +53,7 @@ impl<C: Drop, D: Digest> Shelf<C, D> {
         Shelf {
             certificates: Vec::new(alloc),
             handed: 0,
+            last_final: 0,
         }
     }
 
@@ -81,6 +85,7 @@ impl<C: Drop, D: Digest> Shelf<C, D> {
             drop(certificate);
             return;
         }
+        self.last_final = self.last_final.max(final_view_of(&certificate));
         self.certificates.push_reserved(certificate);
     }
 
@@ -98,6 +103,9 @@ impl<C: Drop, D: Digest> Shelf<C, D> {
         ensures none { result ≡ None → HaveNoFinal view self.now.certificates }
         ensures some { IfSome result (λ it. IsFinalAt view self.now.certificates it.0 it.1) }
     {
+        if self.last_final <= view {
+            return None;
+        }
         final_after(&self.certificates, view)
     }
 
@@ -191,6 +199,18 @@ fn count_from<C, D: Digest>(certificates: &[Certificate<C, D>], first: u64) -> u
         .iter()
         .filter(|certificate| first <= certificate.round().view.0)
         .count()
+}
+
+// The view that a finalization makes the final one, and 0 of what is none.
+fn final_view_of<C, D: Digest>(certificate: &Certificate<C, D>) -> u64
+    ensures { (p : TheProposal D) → subject_certified certificate.now ≡ Finalize p
+        → p.round.view.0 ≤ result }
+{
+    match certificate.subject() {
+        Subject::Finalize { proposal } => proposal.round.view.0,
+        Subject::Notarize { .. } => 0,
+        Subject::Nullify { .. } => 0,
+    }
 }
 
 // The same among these.
