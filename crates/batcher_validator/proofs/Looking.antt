@@ -2,7 +2,7 @@
 use Rattle.batcher_validator.proofs.Words.{◌≡◌, ◌⊎◌, ◌+◌, ◌<◌, ◌≤◌, ◌∙◌, ℕ, true, false, List, [], ◌∷◌, Option, Some, None, ap, arith, get_or, inl, inr, length}
 use Rattle.batcher_validator.proofs.Words.{subst, sym, take, Contains, IfSome, unwrap_or, slice_get, take_all, Contains-append_cases, slice_get-get_or}
 use Rattle.batcher_validator.proofs.Words.{subject_certified, Certificate, Proposal, Subject, Finalize, Notarize, Nullify, Round, IsAtRest, IsNext, NodeView}
-use Rattle.batcher_validator.proofs.Words.{◌++◌, Bool, filter, max, HaveNoFinal, IsFinalAt}
+use Rattle.batcher_validator.proofs.Words.{◌++◌, ◌-◌, Bool, filter, max, cases_lt, slice_get_within, HasKey, HaveNoFinal, IsFinalAt}
 use Rattle.batcher_validator.proofs.Queueing.{contains_one, left_are, one_more}
 
 module _ {X : Type 0} where
@@ -13,6 +13,34 @@ module _ {X : Type 0} where
   pub one_at : (xs : List X) (i : ℕ) (x y : X) → slice_get xs i ≡ Some x
       → slice_get xs i ≡ Some y → x ≡ y
   one_at xs i x y a b = ap (λ o. unwrap_or o x) (sym a ∙ b)
+
+-- None of the last ones has the key.
+module _ {X Y : Type 0} (key : X → Y) (xs : List X) (y : Y) where
+  abbrev NoneFrom : ℕ → Type 0
+  NoneFrom i =
+      (k : ℕ) → length xs ≤ k + i → (x : X) → slice_get xs k ≡ Some x → key x ≡ y → ⊥
+
+  pub none_at_end : NoneFrom 0
+  none_at_end k behind x there is_of = absurd (omega (arith, behind, slice_get_within xs k x there))
+
+  pub none_before :
+      (i : ℕ) → i < length xs → NoneFrom i
+      → ((x : X) → slice_get xs (length xs - 1 - i) ≡ Some x → key x ≡ y → ⊥) → NoneFrom (i + 1)
+  none_before i lt behind here k from x there is_of =
+      elim (cases_lt (length xs - 1 - i) k) [
+        | inl later ↦ behind k (omega (arith, lt, later)) x there is_of
+        | inr up_to ↦ here x (subst (λ n. slice_get xs n ≡ Some x) (same up_to) there) is_of
+      ]
+    where
+      same : k ≤ length xs - 1 - i → k ≡ length xs - 1 - i
+      same up_to = omega (arith, lt, up_to, from)
+
+  pub none_at_all : (i : ℕ) → length xs ≤ i → NoneFrom i → HasKey key xs y → ⊥
+  none_at_all i all behind has =
+      elim has.there [
+        | (k, (lt, is_it)) ↦ behind k (omega (arith, all)) has.item
+            (slice_get-get_or xs k has.item lt ∙ ap Some is_it) has.is_of
+      ]
 
 module _ {D : Type 0} where
   abbrev proposal_or : Subject D → Proposal D → Proposal D

@@ -1,10 +1,10 @@
 -- Items of which the first were given go on: one more is given, more are put behind them, or some
 -- are over.
-use Rattle.batcher_validator.proofs.Words.{◌≡◌, ◌⊎◌, ◌+◌, ◌<◌, ◌≤◌, ◌++◌, ◌∙◌, ℕ, zero, suc, Bool, true, false, List, [], ◌∷◌, Some, ap, arith, drop, get_or}
+use Rattle.batcher_validator.proofs.Words.{◌≡◌, ◌⊎◌, ◌+◌, ◌<◌, ◌≤◌, ◌++◌, ◌∙◌, ℕ, zero, suc, Bool, true, false, List, [], ◌∷◌, Some, ap, arith, drop}
 use Rattle.batcher_validator.proofs.Words.{inl, inr, length, refl, subst, sym, take, Contains, count_by, filter, slice_get, take-append_seam, take-suc}
-use Rattle.batcher_validator.proofs.Words.{length-append, take-append-drop, take-append-le, take_all, All-contains, All-contains_itself, All-filter}
+use Rattle.batcher_validator.proofs.Words.{length-append, take-append-drop, take-append-le, All-contains, All-contains_itself, All-filter}
 use Rattle.batcher_validator.proofs.Words.{Contains-append_cases, Contains-append_left, Contains-append_right, length-filter, get_or_from_slice_get}
-use Rattle.batcher_validator.proofs.Words.{slice_get-get_or, slice_get_within, contains_filter, AreDistinct, AreFirst, HasKey}
+use Rattle.batcher_validator.proofs.Words.{slice_get_within, contains_filter, AreDistinct, AreFirst, HasKey}
 
 module _ {X : Type 0} where
   -- the first elements and the one behind them
@@ -219,31 +219,3 @@ module _ {X Y : Type 0} (key : X → Y) where
         rest,
       )
       of_bool false e rest = rw (e) rest
-
-  -- none of the first has the key,
-  pub none_first : (items : List X) (y : Y) (w : X) → Contains (take 0 items) w → key w ≡ y → ⊥
-  none_first [] y w (i, lt, is) = absurd (omega arith)
-  none_first (x ∷ items) y w (i, lt, is) = absurd (omega arith)
-
-  -- and nor has the next one,
-  pub none_more :
-      (items : List X) (i : ℕ) (y : Y) → i < length items
-      → ((x : X) → slice_get items i ≡ Some x → key x ≡ y → ⊥)
-      → ((w : X) → Contains (take i items) w → key w ≡ y → ⊥)
-      → (w : X) → Contains (take (i + 1) items) w → key w ≡ y → ⊥
-  none_more items i y lt differs none w first same =
-      let there : slice_get items i ≡ Some (get_or items i w) = slice_get-get_or items i w lt in
-      of_cases (get_or items i w) there (Contains-append_cases (take i items) (get_or items i w ∷ []) w
-      (subst (λ xs. Contains xs w) (one_more items i (get_or items i w) there) first))
-    where
-      of_cases : (x : X) → slice_get items i ≡ Some x
-          → Contains (take i items) w ⊎ Contains (x ∷ []) w → ⊥
-      of_cases x there (inl before) = none w before same
-      of_cases x there (inr last) = differs x there (ap key (contains_one x w last) ∙ same)
-
-  -- so none has it.
-  pub none_here :
-      (items : List X) (i : ℕ) (y : Y) → length items ≤ i
-      → ((w : X) → Contains (take i items) w → key w ≡ y → ⊥) → HasKey key items y → ⊥
-  none_here items i y le none has =
-      none has.item (subst (λ xs. Contains xs has.item) (sym (take_all i items le)) has.there) has.is_of

@@ -1,6 +1,6 @@
 -- In which views a validator has voted to finalize or to nullify.
-use Rattle.batcher_validator.proofs.Words.{◌≡◌, ◌⊎◌, ◌<◌, ◌≤◌, ◌++◌, ◌∙◌, ℕ, Bool, true, false, List, [], ◌∷◌, ap, arith, inl, inr, refl, subst, sym, cases_lt}
-use Rattle.batcher_validator.proofs.Words.{same_round, subject_of, subjects_contradict, Proposal, Subject, Notarize, Nullify, Finalize, Round}
+use Rattle.batcher_validator.proofs.Words.{◌≡◌, ◌≤◌, ◌++◌, ◌∙◌, ℕ, Bool, true, [], ◌∷◌, ap, arith, inl, inr, subst, sym, cases_lt}
+use Rattle.batcher_validator.proofs.Words.{subject_of, subjects_contradict, Proposal, Subject, Notarize, Nullify, Finalize, Round}
 use Rattle.batcher_validator.proofs.Words.{learned, voted, acts_of, conduct_of, VoterHistory, Conduct, HasVoted, IsCleared, KeepsPolicy}
 use Rattle.batcher_validator.proofs.Words.{voted_final_is_notarized, same_round-true, IsAnotherNotarized, IsRefused, Rule, Contradicts}
 use Rattle.batcher_validator.proofs.Words.{conduct_in, only_did, voter_history, ValidatorHistory, AreDecided, HasDecided, ForEachRun}

@@ -274,7 +274,8 @@ fn final_at<C, D: Digest>(
     }
 }
 
-// The one of this kind and round among these.
+// The one of this kind and round among these. It is looked for from the last one on, since that of
+// a late view is asked for most.
 fn find<C, D: Digest>(
     certificates: &[Certificate<C, D>],
     kind: Kind,
@@ -285,8 +286,9 @@ fn find<C, D: Digest>(
     ensures none { result ≡ None → HasKey kind_and_round certificates.now (kind, round) → ⊥ }
 {
     for i in 0..certificates.len() {
-        if is_key_at(certificates, i, kind, round) {
-            return Some(&certificates[i]);
+        let at = certificates.len() - 1 - i;
+        if is_key_at(certificates, at, kind, round) {
+            return Some(&certificates[at]);
         }
     }
     None

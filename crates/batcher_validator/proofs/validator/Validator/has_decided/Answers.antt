@@ -1,4 +1,4 @@
-use Rattle.batcher_validator.proofs.Words.{inl, inr, voter_history}
+use Rattle.batcher_validator.proofs.Words.{voter_history}
 use Rattle.batcher_validator.proofs.Settling.{refused_is_decided}
 use Rattle.batcher_validator.proofs.validator.Validator.has_decided.Goals as goal
 
