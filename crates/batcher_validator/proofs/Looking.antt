@@ -2,8 +2,8 @@
 use Rattle.batcher_validator.proofs.Words.{◌≡◌, ◌⊎◌, ◌+◌, ◌<◌, ◌≤◌, ◌∙◌, ℕ, true, false, List, [], ◌∷◌, Option, Some, None, ap, arith, get_or, inl, inr, length}
 use Rattle.batcher_validator.proofs.Words.{subst, sym, take, Contains, IfSome, unwrap_or, slice_get, take_all, Contains-append_cases, slice_get-get_or}
 use Rattle.batcher_validator.proofs.Words.{subject_certified, Certificate, Proposal, Subject, Finalize, Notarize, Nullify, Round, IsAtRest, IsNext, NodeView}
-use Rattle.batcher_validator.proofs.Words.{◌++◌, ◌-◌, Bool, filter, max, cases_lt, slice_get_within, HasKey, HaveNoFinal, IsFinalAt}
-use Rattle.batcher_validator.proofs.Queueing.{contains_one, left_are, one_more}
+use Rattle.batcher_validator.proofs.Words.{◌++◌, ◌-◌, Bool, filter, max, cases_lt, slice_get_within, AreShelved, HasKey, HaveNoFinal, IsFinalAt, kind_and_round}
+use Rattle.batcher_validator.proofs.Queueing.{contains_one, distinct_behind, distinct_left, left_are, one_more}
 
 module _ {X : Type 0} where
   pub read_at : (xs : List X) (i : ℕ) (x : X) → i < length xs → x ≡ get_or xs i x
@@ -37,10 +37,8 @@ module _ {X Y : Type 0} (key : X → Y) (xs : List X) (y : Y) where
 
   pub none_at_all : (i : ℕ) → length xs ≤ i → NoneFrom i → HasKey key xs y → ⊥
   none_at_all i all behind has =
-      elim has.there [
-        | (k, (lt, is_it)) ↦ behind k (omega (arith, all)) has.item
-            (slice_get-get_or xs k has.item lt ∙ ap Some is_it) has.is_of
-      ]
+      behind has.there.0 (omega (arith, all)) has.item
+      (slice_get-get_or xs has.there.0 has.item has.there.1 ∙ ap Some has.there.2) has.is_of
 
 module _ {D : Type 0} where
   abbrev proposal_or : Subject D → Proposal D → Proposal D
@@ -84,7 +82,7 @@ pub none_after_all :
 none_after_all view kept i le none = subst (HaveNoFinal view) (take_all i kept le) none
 
 -- What comes behind them is of a view up to this one, or isn't a finalization.
-pub none_after_with :
+none_after_with :
     {C D : Type 0} (last view : ℕ) (kept : List (Certificate C D)) (it : Certificate C D)
     → HaveNoFinal last kept
     → ((p : Proposal D) → subject_certified it ≡ Finalize p → p.round.view.0 ≤ view)
@@ -95,12 +93,26 @@ none_after_with last view kept it none next c there p is_of =
       | inr one ↦ omega (arith, next p (ap subject_certified (contains_one it c one) ∙ is_of))
     ]
 
+pub shelved_with :
+    {C D : Type 0} (last view : ℕ) (kept : List (Certificate C D)) (it : Certificate C D)
+    → AreShelved last kept → (HasKey kind_and_round kept (kind_and_round it) → ⊥)
+    → ((p : Proposal D) → subject_certified it ≡ Finalize p → p.round.view.0 ≤ view)
+    → AreShelved (max last view) (kept ++ it ∷ [])
+shelved_with last view kept it are other next =
+    record {
+      distinct = distinct_behind kind_and_round kept it are.distinct other;
+      no_later = none_after_with last view kept it are.no_later next;
+    }
+
 -- and so it is of those that are left
-pub none_after_left :
+pub shelved_left :
     {C D : Type 0} (last : ℕ) (is_left : Certificate C D → Bool) (kept : List (Certificate C D))
-    → HaveNoFinal last kept → HaveNoFinal last (filter is_left kept)
-none_after_left last is_left kept none c there p is_of =
-    none c (left_are is_left kept c there) p is_of
+    → AreShelved last kept → AreShelved last (filter is_left kept)
+shelved_left last is_left kept are =
+    record {
+      distinct = distinct_left kind_and_round is_left kept are.distinct;
+      no_later = λ c there. are.no_later c (left_are is_left kept c there);
+    }
 
 pub none_after_first :
     {C D : Type 0} (view : ℕ) (kept : List (Certificate C D)) → HaveNoFinal view (take 0 kept)

@@ -1,5 +1,5 @@
 -- In which views a validator has voted to finalize or to nullify.
-use Rattle.batcher_validator.proofs.Words.{◌≡◌, ◌≤◌, ◌++◌, ◌∙◌, ℕ, Bool, true, [], ◌∷◌, ap, arith, inl, inr, subst, sym, cases_lt}
+use Rattle.batcher_validator.proofs.Words.{◌≡◌, ◌+◌, ◌≤◌, ◌++◌, ◌∙◌, ℕ, Bool, true, [], ◌∷◌, ap, arith, inl, inr, subst, sym, cases_lt}
 use Rattle.batcher_validator.proofs.Words.{subject_of, subjects_contradict, Proposal, Subject, Notarize, Nullify, Finalize, Round}
 use Rattle.batcher_validator.proofs.Words.{learned, voted, acts_of, conduct_of, VoterHistory, Conduct, HasVoted, IsCleared, KeepsPolicy}
 use Rattle.batcher_validator.proofs.Words.{voted_final_is_notarized, same_round-true, IsAnotherNotarized, IsRefused, Rule, Contradicts}
@@ -49,7 +49,7 @@ decided_is_contested all keeps p (inr (q, (of_round, finalized))) cleared not_ye
     }
 
 -- A nullify that is refused was decided against.
-module _ {G D : Type 0} (same : D → D → Bool) (all past : Conduct D) (final : ℕ) (number : Round) where
+module _ {D : Type 0} (same : D → D → Bool) (all past : Conduct D) (final : ℕ) (number : Round) where
   by_subject :
       (t : Subject D) → HasVoted all t → subjects_contradict same t (Nullify number) ≡ true
       → HasDecided all number
@@ -58,7 +58,7 @@ module _ {G D : Type 0} (same : D → D → Bool) (all past : Conduct D) (final 
   by_subject (Finalize q) was e = inr (q, (same_round-true q.round number e, was))
 
   pub refused_is_decided :
-      (rule : Rule G D) → IsRefused same all past final rule (Nullify number)
+      {G : Type 0} (rule : Rule G D) → IsRefused same all past final rule (Nullify number)
       → HasDecided all number
   refused_is_decided (Contradicts vote) why = by_subject (subject_of vote) why.0 why.1
   refused_is_decided rule why = absurd why
@@ -129,13 +129,10 @@ decided_not_signed config old epoch view has p here past earlier is wanted may =
     (subst (λ n. HasDecided (conduct_in earlier past) n) (sym round) (has past earlier is))
     may.0.cleared may.0.not_yet
   where
-    x : NodeConfig D K G C
-    x = config old.voter.node
-
     round : p.round ≡ numbered old.voter.node.epoch view
     round =
         ap (λ e. numbered e p.round.view.0)
-        (same_epoch x.epoch (window_by past) p.round may.0.within ∙ epoch)
+        (same_epoch (config old.voter.node).epoch (window_by past) p.round may.0.within ∙ epoch)
         ∙ ap (λ n. numbered old.voter.node.epoch n) here
 
 -- Then nothing happens that counts.

@@ -12,6 +12,7 @@ pub use Rattle.std.proofs.lemmas.Option.{get_or_from_slice_get, slice_get_within
 pub use Rattle.std.specs.List.{slice_get, count_by, filter, list_any}
 pub use Rattle.std.specs.Option.{option_map, option_or}
 pub use Rattle.std.specs.Prelude.{◌≡◌, ◌++◌, ℕ, zero, suc, Bool, true, false, List, [], ◌∷◌, Some, None, length, replicate, take, Contains, unwrap_or, ◌⊎◌, ◌<◌}
+pub use Rattle.std.specs.Prelude.{◌-◌}
 pub use Rattle.std.specs.Prelude.{Option, cond, set, is_some, ◌≤◌, All, IfSome, option_and_then, max, ◌+◌, not, ◌≢◌, ◌^◌, MatchBool, MatchOption, ◌&&◌, drop}
 pub use Rattle.std.specs.Prelude.{Ok}
 pub use Rattle.std.specs.declared.cmp.Ordering.{Ordering}
@@ -91,7 +92,7 @@ pub use Rattle.batcher_validator.specs.Recalling.{Recalls, IsAtPlace}
 pub use Rattle.batcher_validator.specs.Running.{HasBegun, HasCertificate, IsRunning, ValidatorView, is_over_for, AreBlocked, blocks_sender, IntentView}
 pub use Rattle.batcher_validator.specs.Running.{ForEachRun, Gives, GivenView, RunStays, WhyNotFinal, tally_from, left_of, AreKept, RunMeets, is_before_view}
 pub use Rattle.batcher_validator.specs.Running.{AreFirstVotes, HasConstructed, tallied, IsIntent, AreBytesOf, RunCasts, RunMayWrite, RunWrites, RunTakes}
-pub use Rattle.batcher_validator.specs.Shelves.{IsFinalAt, is_from, HaveNoFinal, IsAt, kind_and_round, Shelves, IsLookedAt, ShelvesOne}
+pub use Rattle.batcher_validator.specs.Shelves.{AreShelved, IsFinalAt, is_from, HaveNoFinal, IsAt, kind_and_round, Shelves, IsLookedAt, ShelvesOne}
 pub use Rattle.batcher_validator.specs.Tasks.{MayGive, IsContested, MaySign, MayVote, AreGivenInTurn, Counts, HasEntered, IsNextIn, NobodyIsToBlock}
 pub use Rattle.batcher_validator.specs.Tasks.{NothingIsDue, NothingIsDueMeanwhile}
 pub use Rattle.batcher_validator.specs.Tasks.{NothingIsProposed, NothingIsToSign, IsOpen}

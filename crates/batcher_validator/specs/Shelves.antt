@@ -9,7 +9,7 @@ use Rattle.batcher.specs.messages.Proposal.{Proposal}
 use Rattle.batcher.specs.messages.Subject.TheVariants.{Finalize}
 use Rattle.batcher.specs.positions.Epoch.{Epoch}
 use Rattle.batcher.specs.positions.Round.{Round}
-use Rattle.batcher_validator.specs.Queues.{HasKey}
+use Rattle.batcher_validator.specs.Queues.{AreDistinct, HasKey}
 
 -- The certificates, how many of them were given to be sent, and for how many more there is room.
 pub record ShelfView (C D : Type 0) : Type 0 where
@@ -69,3 +69,8 @@ module _ {C D : Type 0} where
   HaveNoFinal view kept =
       (c : Certificate C D) → Contains kept c → (p : Proposal D)
       → subject_certified c ≡ Finalize p → p.round.view.0 ≤ view
+
+  -- They are of each kind and round one, and no finalization is of a view after this one.
+  pub record AreShelved (last_final : ℕ) (kept : List (Certificate C D)) : Type 0 where
+    pub distinct : AreDistinct kind_and_round kept
+    pub no_later : HaveNoFinal last_final kept

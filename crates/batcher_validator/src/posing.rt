@@ -328,7 +328,7 @@ where
 
     // Whether it has in a view.
     fn has_decided(&self, view: View) -> bool
-        ensures decides { result ≡ true → ForEachRun
+        ensures { result ≡ true → ForEachRun
             (⟦<S as NodeConfigs<D>>⟧.of self.now.voter.node) self.now
             (λ past earlier. HasDecided (conduct_in earlier past)
             (numbered self.now.voter.node.epoch view.0)) }

@@ -30,8 +30,7 @@ pub(crate) struct Shelf<C: Drop, D: Digest> {
 impl<C: Drop, D: Digest> Model for Shelf<C, D> {
     ghost use Rattle.std.specs.Prelude.{◌-◌, length};
     ghost use Rattle.std.specs.Vec.{vec_capacity};
-    ghost use Rattle.batcher_validator.specs.Queues.{AreDistinct};
-    ghost use Rattle.batcher_validator.specs.Shelves.{HaveNoFinal, ShelfView, kind_and_round};
+    ghost use Rattle.batcher_validator.specs.Shelves.{AreShelved, ShelfView};
 
     ghost Value = { ShelfView C D };
 
@@ -41,8 +40,7 @@ impl<C: Drop, D: Digest> Model for Shelf<C, D> {
       room = vec_capacity s.certificates - length s.certificates.items;
     } };
 
-    ghost invariant = { λ s. AreDistinct kind_and_round s.certificates.items
-        × HaveNoFinal s.last_final s.certificates.items };
+    ghost invariant = { λ s. AreShelved s.last_final s.certificates.items };
 }
 
 impl<C: Drop, D: Digest> Shelf<C, D> {
