@@ -1,8 +1,22 @@
 -- A validator goes on with what it is answered, and with what it gives to be signed, made and judged.
 use Rattle.batcher_validator.proofs.Words.{◌≡◌, ℕ, ◌∷◌, Some, ap, refl, max, Proposal, Subject, View, Conduct, NodeConfig, ValidatorHistory, chose, expired}
-use Rattle.batcher_validator.proofs.Words.{refused}
+use Rattle.batcher_validator.proofs.Words.{◌∙◌, numbered, refused, Epoch, Round}
 use Rattle.batcher_validator.proofs.Words.{gave, later_of, with_refused, IntentView, IsRunning, ValidatorView, MayGive, Judge, Propose, Sign}
 use Rattle.batcher_validator.proofs.Keeping.{kept_still}
+
+-- A proposal of these parts.
+pub proposal_is :
+    {D : Type 0} (p : Proposal D) (epoch here : Epoch) (view parent : View) (payload : D)
+    → p.round ≡ record { epoch = epoch; view = view } → epoch ≡ here → p.parent ≡ parent
+    → p.payload ≡ payload
+    → p ≡ record { round = numbered here view.0; parent = parent; payload = payload }
+proposal_is {D = D} p epoch here view parent payload round same at with =
+    ap (λ r. made r p.parent p.payload) (round ∙ ap (λ e. numbered e view.0) same)
+    ∙ ap (λ v. made (numbered here view.0) v p.payload) at
+    ∙ ap (λ d. made (numbered here view.0) parent d) with
+  where
+    made : Round → View → D → Proposal D
+    made r v d = record { round = r; parent = v; payload = d }
 
 module _ {S D K G C L : Type 0} (x : NodeConfig D K G C) (old new : ValidatorView S G D L C)
     (intent : IntentView D) (given : new.given ≡ record old.given { intent = intent })
