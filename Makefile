@@ -8,7 +8,7 @@
 # make quick               proves what has changed, and plays all scripts
 # make rust                tests the interfaces for Rust and C, for which it takes cargo and cc
 # make simulate [SEED=n]   plays networks of validators in virtual time; with PRESET=name, of that sort
-# make test                proves everything and runs every test
+# make test [ANEW=1]       proves everything and runs every test; after an interrupt it goes on, or with ANEW=1 begins anew
 # make clean               removes all that rt has kept and built
 # make help                prints this list, as make does by itself
 
@@ -17,10 +17,11 @@ export MAKEFILE_NAMED = $(value MAKEFILE_LIST)
 export SCRIPT_NAMED = $(value SCRIPT)
 export SEED_NAMED = $(value SEED)
 export PRESET_NAMED = $(value PRESET)
+export ANEW_NAMED = $(value ANEW)
 # The folder in which make was called, also where -C leads elsewhere.
 export CALLED_IN = $(value PWD)
 # make would expand what it exports by itself.
-unexport SCRIPT SEED PRESET
+unexport SCRIPT SEED PRESET ANEW
 
 # make begins its list of files with a space.
 TOP = "$$(dirname "$${MAKEFILE_NAMED\# }")"
@@ -61,8 +62,9 @@ rust:
 simulate:
 	@$(TOP)/tools/simulate $${SEED_NAMED:+"$$SEED_NAMED"} $${PRESET_NAMED:+"$$PRESET_NAMED"}
 
+# A signal to make's recipe is one to the gate.
 test:
-	@$(TOP)/tools/test
+	@exec $(TOP)/tools/test $${ANEW_NAMED:+--anew}
 
 clean:
-	@rm -rf $(TOP)/crates/*/out $(TOP)/rust/target $(TOP)/rust/validator/target $(TOP)/rust/simulator/target $(TOP)/out
+	@rm -rf "$$(cat $(TOP)/out/gate/room 2> /dev/null)" $(TOP)/crates/*/out $(TOP)/rust/target $(TOP)/rust/validator/target $(TOP)/rust/simulator/target $(TOP)/out

@@ -94,9 +94,9 @@ class Count:
         if failed:
             self.unmet += "\n".join([f"== {tool} failed; its last lines:", *last, ""])
 
-    def end(self):
+    def end(self, more=""):
         """Says the last line, and gives the status of the tool."""
-        print(f"{self.passed} passed, {self.failed} failed", flush=True)
+        print(f"{self.passed} passed, {self.failed} failed{more}", flush=True)
         return 1 if self.failed else 0
 
 

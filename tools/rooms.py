@@ -141,6 +141,11 @@ def children_of(pid):
     return found
 
 
+def descendants_of(pid):
+    """These, and all that they have started, and so on."""
+    return [it for child in children_of(pid) for it in [child, *descendants_of(child)]]
+
+
 def seconds_of(pid):
     """The processor seconds of a process, and of all that it started."""
     try:
