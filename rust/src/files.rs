@@ -10,6 +10,7 @@ use crate::positions::{Participant, View};
 use std::fs::{File, OpenOptions};
 use std::io::{self, ErrorKind, Read, Seek, SeekFrom, Write as _};
 use std::path::Path;
+use std::sync::atomic::Ordering;
 
 /// How the files are named in their folder.
 const NAMES: [&str; 2] = ["journal.0", "journal.1"];
@@ -59,7 +60,8 @@ impl Opened {
         match self {
             Opened::New(files) => files.begin(options, leader),
             Opened::Written(bytes, mut files) => {
-                let running = Loop::start(options, leader, &bytes, verify)?;
+                let mut running = Loop::start(options, leader, &bytes, verify)?;
+                running.has_files = true;
                 files.life = Some(running.life);
                 Ok((running, files))
             }
@@ -81,7 +83,8 @@ impl NewFiles {
     where
         G: Clone + AsRef<[u8]> + for<'b> TryFrom<&'b [u8]>,
     {
-        let running = Loop::begin(options, leader)?;
+        let mut running = Loop::begin(options, leader)?;
+        running.has_files = true;
         let (pair, life) = (Some(self.pair), Some(running.life));
         let writes = 0;
         Ok((running, Files { pair, life, writes }))
@@ -165,7 +168,7 @@ impl Files {
     }
 
     /// Writes what a validator gave to be written. It lasts once that is done: say so by
-    /// [`Loop::wrote`].
+    /// [`Loop::wrote`], which refuses what these files don't have.
     ///
     /// # Errors
     ///
@@ -192,7 +195,10 @@ impl Files {
         self.life = Some(write.life);
         let done = pair.write(write.replaces(), write.bytes());
         match done {
-            Ok(()) => self.writes += 1,
+            Ok(()) => {
+                self.writes += 1;
+                write.is_written.store(true, Ordering::Relaxed);
+            }
             Err(_) => self.pair = None,
         }
         done

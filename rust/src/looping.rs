@@ -73,7 +73,7 @@ use crate::positions::{Epoch, Participant, Round, View, quorum};
 use std::collections::VecDeque;
 use std::fmt;
 use std::marker::PhantomData;
-use std::sync::atomic::{AtomicU64, Ordering};
+use std::sync::atomic::{AtomicBool, AtomicU64, Ordering};
 
 /// What a validator is made of.
 #[derive(Clone, Copy, Debug)]
@@ -307,6 +307,8 @@ pub struct Write {
     pub(crate) life: Life,
     /// How many its validator has given before it.
     pub(crate) number: u64,
+    /// Whether the crate's files have it.
+    pub(crate) is_written: AtomicBool,
 }
 
 impl Write {
@@ -321,18 +323,54 @@ impl Write {
     }
 }
 
-/// A write was given by another validator than the one that was told of it, as by one that has
-/// started again since.
-#[derive(Clone, Copy, Debug, PartialEq, Eq, Hash)]
-pub struct OtherLife;
+/// A write is confirmed once, and by itself alone. The first programs are refused for that: the last
+/// compiles.
+///
+/// ```compile_fail
+/// # use batcher::looping::{Loop, Write, WroteError};
+/// # fn confirm(running: &mut Loop<Vec<u8>>, write: Write) -> Result<(), WroteError> {
+/// running.wrote(write)?;
+/// running.wrote(write)
+/// # }
+/// ```
+///
+/// ```compile_fail
+/// # use batcher::looping::{Loop, Write, WroteError};
+/// # fn confirm(running: &mut Loop<Vec<u8>>, write: Write) -> Result<(), WroteError> {
+/// running.wrote(write.clone())?;
+/// running.wrote(write)
+/// # }
+/// ```
+///
+/// ```
+/// # use batcher::looping::{Loop, Write, WroteError};
+/// # fn confirm(running: &mut Loop<Vec<u8>>, write: Write) -> Result<(), WroteError> {
+/// running.wrote(write)
+/// # }
+/// ```
+#[cfg(doctest)]
+struct Confirmed;
 
-impl fmt::Display for OtherLife {
+/// Why a write isn't confirmed.
+#[derive(Clone, Copy, Debug, PartialEq, Eq, Hash)]
+pub enum WroteError {
+    /// Another validator gave it, as one that has started again since.
+    OtherLife,
+    /// The files of which the validator was made don't have it: [`Files::write`](crate::Files::write)
+    /// wasn't called with it, or failed. Start again by the files.
+    NotWritten,
+}
+
+impl fmt::Display for WroteError {
     fn fmt(&self, f: &mut fmt::Formatter<'_>) -> fmt::Result {
-        f.write_str("another validator gave this to be written")
+        match self {
+            WroteError::OtherLife => f.write_str("another validator gave this to be written"),
+            WroteError::NotWritten => f.write_str("the files don't have this"),
+        }
     }
 }
 
-impl std::error::Error for OtherLife {}
+impl std::error::Error for WroteError {}
 
 /// Why a certificate isn't shown.
 #[derive(Clone, Copy, Debug, PartialEq, Eq, Hash)]
@@ -473,6 +511,8 @@ pub struct Loop<G> {
     entered: View,
     // How many writes were given.
     writes: u64,
+    // Whether it was made of the crate's files, which write what it gives.
+    pub(crate) has_files: bool,
     signatures: PhantomData<G>,
 }
 
@@ -633,6 +673,7 @@ impl<G: Clone + AsRef<[u8]> + for<'b> TryFrom<&'b [u8]>> Loop<G> {
             last: View::zero(),
             entered: View::zero(),
             writes: 0,
+            has_files: false,
             signatures: PhantomData,
         })
     }
@@ -784,6 +825,7 @@ impl<G: Clone + AsRef<[u8]> + for<'b> TryFrom<&'b [u8]>> Loop<G> {
                         bytes,
                         life: self.life,
                         number,
+                        is_written: AtomicBool::new(false),
                     }));
                 }
                 code::IDLE => return Ok(None),
@@ -913,10 +955,14 @@ impl<G: Clone + AsRef<[u8]> + for<'b> TryFrom<&'b [u8]>> Loop<G> {
     ///
     /// # Errors
     ///
-    /// Another validator gave it, as before a start by the same disk. Nothing changes.
-    pub fn wrote(&mut self, write: Write) -> Result<(), OtherLife> {
+    /// `OtherLife`, where another validator gave it, as before a start by the same disk. `NotWritten`,
+    /// where this one was made of [`Files`](crate::Files), and they don't have it. Nothing changes.
+    pub fn wrote(&mut self, write: Write) -> Result<(), WroteError> {
         if write.life != self.life {
-            return Err(OtherLife);
+            return Err(WroteError::OtherLife);
+        }
+        if self.has_files && !write.is_written.load(Ordering::Relaxed) {
+            return Err(WroteError::NotWritten);
         }
         match self.library.wrote(write.number) {
             code::DONE => Ok(()),

@@ -4,38 +4,21 @@
 mod shared;
 mod toy;
 
-use batcher::looping::{Loop, Options, StartError, Task, Write};
+use batcher::looping::{Loop, Options, StartError, Task, Write, WroteError};
 use batcher::{Epoch, Files, Opened, Participant, Sha256Digest, View};
-use shared::verdicts;
+use shared::{Folder, verdicts};
 use std::ffi::c_int;
 use std::fs::{self, OpenOptions};
 use std::io::{self, ErrorKind, Read as _, Write as _};
 use std::os::unix::net::UnixStream;
 use std::os::unix::process::CommandExt as _;
-use std::path::{Path, PathBuf};
+use std::path::Path;
 use std::process::Command;
 use toy::{Signature, sign};
 
 const NAMES: [&str; 2] = ["journal.0", "journal.1"];
 
-/// A folder of its own, which is removed with it.
-struct Folder(PathBuf);
-
 impl Folder {
-    fn new(name: &str) -> Self {
-        // Where it is there, a disk that is memory: a sync takes no time.
-        let memory = Path::new("/dev/shm");
-        let room = if memory.is_dir() {
-            memory.to_path_buf()
-        } else {
-            std::env::temp_dir()
-        };
-        let path = room.join(format!("batcher-{name}-{}", std::process::id()));
-        let _ = fs::remove_dir_all(&path);
-        fs::create_dir_all(&path).unwrap();
-        Folder(path)
-    }
-
     /// The bytes of both files.
     fn both(&self) -> [Vec<u8>; 2] {
         NAMES.map(|name| fs::read(self.0.join(name)).unwrap())
@@ -45,12 +28,6 @@ impl Folder {
         for (name, bytes) in NAMES.iter().zip(both) {
             fs::write(self.0.join(name), bytes).unwrap();
         }
-    }
-}
-
-impl Drop for Folder {
-    fn drop(&mut self) {
-        let _ = fs::remove_dir_all(&self.0);
     }
 }
 
@@ -478,6 +455,10 @@ fn on_a_full_disk() {
         assert_eq!(kind_of(alone.write()), ErrorKind::Other);
         limit_files(u64::MAX);
         assert_eq!(kind_of(alone.write()), ErrorKind::Other);
+        // Nor does its validator take it for written.
+        let refused = alone.refused.take().expect("it was refused");
+        let wrote = alone.running.wrote(refused);
+        assert_eq!(wrote, Err(WroteError::NotWritten));
         let written = alone.written.clone();
         // They are closed, so they can be opened again before it is dropped.
         let mut again = match Files::open(&folder).unwrap() {

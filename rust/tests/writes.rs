@@ -4,7 +4,7 @@
 mod shared;
 mod toy;
 
-use batcher::looping::{KeptError, Loop, OtherLife, Task, Wanted, Write};
+use batcher::looping::{KeptError, Loop, Task, Wanted, Write, WroteError};
 use batcher::positions::Round;
 use batcher::{Epoch, Kind, Participant, Proposal, Sha256Digest, Subject, View};
 use shared::{options, put, verdicts};
@@ -216,12 +216,12 @@ fn another_life_takes_none() {
     let (mut it, write) = signs_in_a_write();
     it.put(&write);
     let mut again = Loop::<Signature>::start(&options(0), leader, &it.disk, verdicts).unwrap();
-    assert_eq!(again.wrote(write), Err(OtherLife));
+    assert_eq!(again.wrote(write), Err(WroteError::OtherLife));
     let mut other = Validator::begin();
     other.running.expire(View::new(1));
     other.go_on();
     other.sign();
     let write = other.next_write().expect("a vote isn't written");
-    assert_eq!(it.running.wrote(write), Err(OtherLife));
+    assert_eq!(it.running.wrote(write), Err(WroteError::OtherLife));
     assert!(it.next_write().is_none());
 }
