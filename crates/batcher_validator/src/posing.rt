@@ -1,6 +1,7 @@
 //! What a validator votes for, proposes and judges.
 
-ghost use Rattle.std.specs.Prelude.{◌≡◌, ◌≤◌, ◌<◌, ◌⊎◌, ◌++◌, IfSome, IsTrue, MatchBool, None};
+ghost use Rattle.std.specs.Prelude.{◌≡◌, ◌≤◌, ◌<◌, ◌⊎◌, ◌++◌, ◌+◌, IfSome, IsTrue, MatchBool};
+ghost use Rattle.std.specs.Prelude.{None};
 ghost use Rattle.std.specs.Prelude.{Some, ℕ, true, false};
 ghost use Rattle.std.specs.List.{list_any};
 ghost use Rattle.batcher.specs.Votes.{round_in, same_round, subject_of};
@@ -253,6 +254,26 @@ where
         ensures none { result ≡ None → (p : TheProposal D)
             → IsNotToSign ⟦<S as NodeConfigs<D>>⟧.of self.now (Finalize p) }
     {
+        match self.to_finalize_in(View(self.final_view())) {
+            Some(proposal) => Some(proposal),
+            None => self.next_to_finalize_behind(),
+        }
+    }
+
+    // The same where there is none in the final view.
+    fn next_to_finalize_behind(&self) -> Option<Proposal<D>>
+        requires open { self.now.voter.journal.is_open ≡ true }
+        requires not_there { (p : TheProposal D)
+            → p.round.view.0 ≡ self.now.voter.node.window.finalized
+            → IsNotToSign ⟦<S as NodeConfigs<D>>⟧.of self.now (Finalize p) }
+        ensures some { IfSome result (λ p.
+            IsToSign ⟦<S as NodeConfigs<D>>⟧.of self.now (Finalize p)) }
+        ensures preferred { IfSome result (λ p. ForEachRun
+            (⟦<S as NodeConfigs<D>>⟧.of self.now.voter.node) self.now
+            (λ past earlier. IsFinalizable D.eq self.now.voter p)) }
+        ensures none { result ≡ None → (p : TheProposal D)
+            → IsNotToSign ⟦<S as NodeConfigs<D>>⟧.of self.now (Finalize p) }
+    {
         self.begins();
         for view in self.decided().end..=self.highest() {
             match self.to_finalize_in(View(view)) {
@@ -263,17 +284,17 @@ where
         None
     }
 
-    // The views from the final one on of which is noted that it has voted to finalize or to
-    // nullify. So it finalizes nothing else there.
+    // The views behind the final one of which is noted that it has voted to finalize or to nullify.
+    // So it finalizes nothing else there.
     fn decided(&self) -> Decided
-        ensures first { result.first ≡ self.now.voter.node.window.finalized }
-        ensures within { result.first ≤ result.end }
+        ensures first { result.first ≤ self.now.voter.node.window.finalized + 1 }
+        ensures within { self.now.voter.node.window.finalized ≤ result.end }
         ensures decides { ForEachRun (⟦<S as NodeConfigs<D>>⟧.of self.now.voter.node) self.now
             (λ past earlier. AreDecided (conduct_in earlier past)
             self.now.voter.node.epoch result) }
     {
         let noted = self.noted();
-        let first = self.final_view();
+        let first = self.behind_final();
         if noted.first <= first && first < noted.end {
             return Decided {
                 first,
@@ -283,13 +304,25 @@ where
         Decided { first, end: first }
     }
 
+    // The view behind the final one, if there is one, and else that.
+    fn behind_final(&self) -> u64
+        ensures from { self.now.voter.node.window.finalized ≤ result }
+        ensures up_to { result ≤ self.now.voter.node.window.finalized + 1 }
+    {
+        let view = self.final_view();
+        match view.checked_add(1) {
+            Some(next) => next,
+            None => view,
+        }
+    }
+
     fn noted(&self) -> Decided
         ensures { result ≡ self.now.given.decided }
     {
         self.given.decided
     }
 
-    // Notes in which views from the final one on it has voted to finalize or to nullify, one behind
+    // Notes in which views behind the final one it has voted to finalize or to nullify, one behind
     // the other.
     pub(crate) fn settle(&mut self)
         ensures stays { RunStays (⟦<S as NodeConfigs<D>>⟧.of self.old.voter.node) self.old

@@ -1,5 +1,5 @@
 use Rattle.batcher_validator.proofs.Words.{◌≡◌, ◌<◌, ℕ, Proposal, Finalize, node_config, IsNotToSign}
-use Rattle.batcher_validator.proofs.validator.Validator.next_to_finalize.Given as goal
+use Rattle.batcher_validator.proofs.validator.Validator.next_to_finalize_behind.Given as goal
 
 abbrev pub invariant-loop-view : goal.invariant-loop-view
 invariant-loop-view g l =
