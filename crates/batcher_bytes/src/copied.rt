@@ -231,6 +231,11 @@ impl Log for CopiedLog {
 
     ghost has_failed = { λ log. ⊥ };
 
+    // Memory alone bounds it.
+    ghost is_full = { λ log bytes. ⊥ };
+
+    ghost is_too_small = { λ log bytes. ⊥ };
+
     ghost is_copied_as = { λ log copy. log.copy ≡ copy };
 
     ghost settled = { λ log left honest settled may. may };

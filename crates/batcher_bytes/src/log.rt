@@ -11,7 +11,7 @@ use std::alloc::Global;
 pub enum LogFault {
     /// Nothing has changed.
     OutOfMemory,
-    /// No more bytes fit in. Nothing has changed.
+    /// So many bytes don't fit in. Nothing has changed.
     Full,
     /// The disk failed. Until the log is opened again nobody knows what is there.
     Failed,
@@ -38,6 +38,12 @@ pub trait Log: Drop {
     /// Whether the disk has failed.
     ghost has_failed: { Self → Type 0 };
 
+    /// Whether these bytes don't fit in, behind what is there.
+    ghost is_full: { Self → List ℕ → Type 0 };
+
+    /// Whether these bytes don't fit in, in the place of all others.
+    ghost is_too_small: { Self → List ℕ → Type 0 };
+
     /// Whether this is the copy of it that somebody else keeps. Where nobody does, any is.
     ghost is_copied_as: { Self → CopyView → Type 0 };
 
@@ -48,6 +54,7 @@ pub trait Log: Drop {
             (is_settled self.new × (written self.new ≡ written self.old ++ bytes.now)) }
         ensures kept { (result ≡ Err OutOfMemory) ⊎ (result ≡ Err Full)
             → is_settled self.new × (written self.new ≡ written self.old) }
+        ensures full { result ≡ Err Full → is_full self.old bytes.now }
         ensures failed { result ≡ Err Failed → has_failed self.new }
         // Whatever it answers, a crash leaves what was there, or that and these bytes.
         ensures leaves { (left : List ℕ) → is_honest self.new → may_leave self.new left
@@ -64,6 +71,7 @@ pub trait Log: Drop {
         ensures ok { OnOk result (is_settled self.new × (written self.new ≡ bytes.now)) }
         ensures kept { (result ≡ Err OutOfMemory) ⊎ (result ≡ Err Full)
             → is_settled self.new × (written self.new ≡ written self.old) }
+        ensures full { result ≡ Err Full → is_too_small self.old bytes.now }
         ensures failed { result ≡ Err Failed → has_failed self.new }
         // Whatever it answers, a crash leaves what was there, or these bytes.
         ensures leaves { (left : List ℕ) → is_honest self.new → may_leave self.new left
@@ -126,6 +134,10 @@ impl Log for MemoryLog {
     ghost is_honest = { λ log. Unit {0} };
 
     ghost has_failed = { λ log. ⊥ };
+
+    ghost is_full = { λ log bytes. ⊥ };
+
+    ghost is_too_small = { λ log bytes. ⊥ };
 
     ghost is_copied_as = { λ log copy. Unit {0} };
 

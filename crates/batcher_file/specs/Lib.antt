@@ -11,3 +11,4 @@ pub mod Carrying
 pub mod Safe
 pub mod Refusals
 pub mod Rot
+pub mod Needing

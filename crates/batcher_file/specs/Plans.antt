@@ -1,6 +1,6 @@
 -- What a plan is made for.
-use Rattle.std.specs.Prelude.{◌≡◌, ◌<◌, ◌≤◌, ◌+◌, ◌-◌, ◌^◌, ◌++◌, ◌∷◌, [], ℕ, Bool, true, false}
-use Rattle.std.specs.Prelude.{List, length, min}
+use Rattle.std.specs.Prelude.{◌≡◌, ◌<◌, ◌≤◌, ◌+◌, ◌-◌, ◌^◌, ◌⊎◌, ◌++◌, ◌∷◌, [], ℕ, Bool, true}
+use Rattle.std.specs.Prelude.{false, List, length, min}
 use Rattle.batcher_file.specs.Disks.{IsBlank}
 use Rattle.batcher_file.specs.Frames.{closed_gate, frame}
 use Rattle.batcher_file.specs.Pairs.{IsTidied}
@@ -15,6 +15,14 @@ pub record SameBytes (old new : TwoFiles) : Type 0 where
   pub bytes : new.bytes.items ≡ old.bytes.items
   pub next : new.next ≡ old.next
   pub end : new.end ≡ old.end
+
+-- So many frames were written, or so many bytes are there or are to be, that none more fit in.
+abbrev pub IsFull : TwoFiles → List ℕ → Type 0
+IsFull old bytes = (2 ^ 63 - 2 ≤ old.next) ⊎ (2 ^ 40 < old.end) ⊎ (2 ^ 40 < length bytes)
+
+-- So many frames were written that there is none more, or so many bytes fit into none.
+abbrev pub IsTooSmall : TwoFiles → List ℕ → Type 0
+IsTooSmall old bytes = (2 ^ 63 - 2 ≤ old.next) ⊎ (2 ^ 40 < length bytes)
 
 -- The next frame has these bytes.
 pub record IsFramed (old : TwoFiles) (bytes : List ℕ) (new : TwoFiles) : Type 0 where
@@ -72,8 +80,8 @@ pub record MakesFiles (first second bytes : List ℕ) (new : TwoFiles) (plan : P
   pub next_is : plan.next ≡ 2
   pub end_is : plan.end ≡ length new.frame.items
 
--- why it isn't made
+-- why it isn't made: memory may be out only where nothing is there
 abbrev pub IsTaken : List ℕ → List ℕ → OpenFault → Type 0
-IsTaken a b OutOfMemory = Unit {0}
+IsTaken a b OutOfMemory = IsBlank a × IsBlank b
 IsTaken a b Taken = IsBlank a × IsBlank b → ⊥
 IsTaken a b fault = ⊥

@@ -2,11 +2,14 @@
 
 ghost use Rattle.std.specs.Prelude.{◌≡◌, ◌<◌, ◌≤◌, ◌-◌, ◌^◌, ◌⊎◌, Err, IfErr, IfOk, List, OnErr};
 ghost use Rattle.std.specs.Prelude.{length};
+ghost use Rattle.batcher_file.specs.Disks.{IsBlank};
+ghost use Rattle.batcher_file.specs.Needing.{AddingNeeds, ReplacingNeeds};
 ghost use Rattle.batcher_file.specs.Pairs.{HoldNone};
-ghost use Rattle.batcher_file.specs.Plans.{IsAddition, MakesFiles, IsOpened, IsReplacement};
-ghost use Rattle.batcher_file.specs.Plans.{SameBytes, IsTaken};
+ghost use Rattle.batcher_file.specs.Plans.{IsAddition, IsFull, IsOpened, IsReplacement, IsTaken};
+ghost use Rattle.batcher_file.specs.Plans.{IsTooSmall, MakesFiles, SameBytes};
 ghost use Rattle.batcher_file.specs.Refusals.{IsWholeBefore, FaultShows};
-ghost use Rattle.batcher_bytes.specs.declared.log.LogFault.TheVariants.{Failed, Full};
+ghost use Rattle.batcher_file.specs.declared.opening.OpenFault.TheVariants.{Empty};
+ghost use Rattle.batcher_bytes.specs.declared.log.LogFault.TheVariants.{Failed, Full, OutOfMemory};
 
 use crate::frame::put_frame;
 use crate::opening::{OpenFault, in_use, is_blank, left_of};
@@ -50,6 +53,8 @@ impl TwoFiles {
         ensures found { IfOk result (λ it. IsOpened first.now second.now it.0 it.1 self.new) }
         ensures refused { IfErr result (FaultShows (HoldNone first.now second.now)) }
         ensures damage { IfErr result (IsWholeBefore first.now second.now) }
+        ensures empty { result ≡ Err Empty → IsBlank first.now × IsBlank second.now }
+        ensures blank { IsBlank first.now → IsBlank second.now → result ≡ Err Empty }
         ensures kept { OnErr result (SameBytes self.old self.new) }
     {
         let (contents, is_turned) = in_use(self.alloc, first, second)?;
@@ -93,9 +98,9 @@ impl TwoFiles {
     pub fn append(&mut self, bytes: &[u8]) -> Result<Plan, LogFault>
         ensures added { IfOk result (IsAddition self.old bytes.now self.new) }
         ensures kept { OnErr result (SameBytes self.old self.new) }
-        ensures full { result ≡ Err Full → (2 ^ 63 - 2 ≤ self.old.next) ⊎ (2 ^ 40 < self.old.end)
-            ⊎ (2 ^ 40 < length bytes.now) }
+        ensures full { result ≡ Err Full → IsFull self.old bytes.now }
         ensures cause { result ≡ Err Failed → ⊥ }
+        ensures needed { result ≡ Err OutOfMemory → AddingNeeds self.old bytes.now }
     {
         if self.next >= MOST_FRAMES || self.end > MOST_BYTES || bytes.len() > MOST_BYTES {
             return Err(LogFault::Full);
@@ -120,9 +125,9 @@ impl TwoFiles {
     pub fn replace(&mut self, bytes: &[u8]) -> Result<Plan, LogFault>
         ensures replaced { IfOk result (IsReplacement self.old bytes.now self.new) }
         ensures kept { OnErr result (SameBytes self.old self.new) }
-        ensures full { result ≡ Err Full → (2 ^ 63 - 2 ≤ self.old.next)
-            ⊎ (2 ^ 40 < length bytes.now) }
+        ensures full { result ≡ Err Full → IsTooSmall self.old bytes.now }
         ensures cause { result ≡ Err Failed → ⊥ }
+        ensures needed { result ≡ Err OutOfMemory → ReplacingNeeds self.old bytes.now }
     {
         if self.next >= MOST_FRAMES || bytes.len() > MOST_BYTES {
             return Err(LogFault::Full);

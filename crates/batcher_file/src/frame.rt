@@ -1,9 +1,10 @@
 //! A frame: a number and how many bytes there are, with their checksum, and the bytes with theirs.
 
-ghost use Rattle.std.specs.Prelude.{◌≡◌, ◌++◌, ◌∷◌, [], IfOk, IfSome, List, None, OnErr, OnOk};
-ghost use Rattle.std.specs.Prelude.{length, ℕ};
+ghost use Rattle.std.specs.Prelude.{◌≡◌, ◌<◌, ◌≤◌, ◌+◌, ◌++◌, ◌∷◌, [], IfOk, IfSome, List, None};
+ghost use Rattle.std.specs.Prelude.{OnErr, OnOk, length, ℕ};
 ghost use Rattle.std.specs.List.{fold};
 ghost use Rattle.std.specs.Int.{w64};
+ghost use Rattle.std.specs.Vec.{vec_capacity, vec_len};
 ghost use Rattle.batcher_bytes.specs.Format.{Decodes, StartsWith, number_bytes};
 ghost use Rattle.batcher_file.specs.Checksums.{checksum, summed};
 ghost use Rattle.batcher_file.specs.Frames.{IsFrame, closed_gate, frame, frame_format, header};
@@ -41,20 +42,32 @@ fn header_sum(number: u64, count: u64) -> u64
     sum_on(sum_on(START, &number.to_be_bytes()), &count.to_be_bytes())
 }
 
+// Puts a number behind what is there, for which there is room.
+#[tactic(auto, unfolding(batcher_bytes::specs::Format::number_bytes))]
+fn put_number(out: &mut Vec<u8>, number: u64)
+    requires { vec_len out.old + 8 ≤ vec_capacity out.old }
+    ensures items { out.new.items ≡ out.old.items ++ number_bytes w64 number }
+    ensures len { vec_len out.new ≡ vec_len out.old + 8 }
+    ensures room { vec_capacity out.old ≤ vec_capacity out.new }
+{
+    out.extend_from_slice(&number.to_be_bytes()).unwrap();
+}
+
 /// Puts a frame and a closed gate behind it in the place of what is there.
 pub fn put_frame(out: &mut Vec<u8>, number: u64, bytes: &[u8]) -> Result<(), AllocError>
-    ensures { OnOk result (out.new.items ≡ frame number bytes.now ++ closed_gate ∷ []) }
+    ensures put { OnOk result (out.new.items ≡ frame number bytes.now ++ closed_gate ∷ []) }
+    ensures needed { OnErr result (vec_capacity out.old < length bytes.now + 33) }
 {
     out.clear();
     // What a frame has beside its bytes, and the gate.
     out.reserve(bytes.len() + 33)?;
     let count = bytes.len() as u64;
-    number.encode(out)?;
-    count.encode(out)?;
-    header_sum(number, count).encode(out)?;
-    out.extend_from_slice(bytes)?;
-    sum_on(START, bytes).encode(out)?;
-    out.push(CLOSED)?;
+    put_number(out, number);
+    put_number(out, count);
+    put_number(out, header_sum(number, count));
+    out.extend_from_slice(bytes).unwrap();
+    put_number(out, sum_on(START, bytes));
+    out.push_reserved(CLOSED);
     Ok(())
 }
 

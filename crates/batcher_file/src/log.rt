@@ -2,6 +2,7 @@
 
 ghost use Rattle.std.specs.Prelude.{◌≡◌, IsTrue, OnErr, OnOk};
 ghost use Rattle.batcher_file.specs.Carrying.{IsBegun, IsCarriedOut, put_first};
+ghost use Rattle.batcher_file.specs.Plans.{IsFull, IsTooSmall};
 ghost use Rattle.batcher_file.specs.Settled.{HasFailed, AreHonestDisks, IsSettled, MayLeave};
 ghost use Rattle.batcher_file.specs.Settled.{MayLose};
 
@@ -59,6 +60,10 @@ impl<K: Disk + Drop> Log for FileLog<K> {
     ghost is_honest = { AreHonestDisks K.seen K.may_leave K.is_usable K.is_clean };
 
     ghost has_failed = { HasFailed K.seen K.may_leave K.is_usable K.is_clean K.faults };
+
+    ghost is_full = { λ log bytes. IsFull log.files bytes };
+
+    ghost is_too_small = { λ log bytes. IsTooSmall log.files bytes };
 
     ghost is_copied_as = { λ log copy. Unit {0} };
 

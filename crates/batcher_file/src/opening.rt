@@ -1,7 +1,7 @@
 //! Opening a log that a crash may have left, and making a new one.
 
-ghost use Rattle.std.specs.Prelude.{◌≡◌, ◌+◌, ◌≤◌, ◌<◌, ◌^◌, ◌⊎◌, Err, IfErr, IfOk, IsTrue, List};
-ghost use Rattle.std.specs.Prelude.{MatchBool, OnOk, false, length, min, ℕ};
+ghost use Rattle.std.specs.Prelude.{◌≡◌, ◌≢◌, ◌+◌, ◌≤◌, ◌<◌, ◌^◌, ◌⊎◌, Err, IfErr, IfOk, IsTrue};
+ghost use Rattle.std.specs.Prelude.{List, MatchBool, OnOk, false, length, min, ℕ};
 ghost use Rattle.sqlite_disk.specs.Disk.{Only};
 ghost use Rattle.batcher_file.specs.Disks.{IsBlank};
 ghost use Rattle.batcher_file.specs.Frames.{AreContents, IsUnread};
@@ -10,7 +10,7 @@ ghost use Rattle.batcher_file.specs.Settled.{HasFailed, AreHonestDisks, IsSynced
 ghost use Rattle.batcher_file.specs.Settled.{MayLeave, MayLose};
 ghost use Rattle.batcher_file.specs.Refusals.{IsOfMaking, IsOfReading, IsUnopened, IsWholeBefore};
 ghost use Rattle.batcher_file.specs.Refusals.{FaultShows};
-ghost use Rattle.batcher_file.specs.declared.opening.OpenFault.TheVariants.{Damaged, Failed};
+ghost use Rattle.batcher_file.specs.declared.opening.OpenFault.TheVariants.{Damaged, Empty, Failed};
 ghost use Rattle.batcher_file.specs.declared.opening.OpenFault.TheVariants.{OutOfMemory, Taken};
 ghost use Rattle.batcher_file.specs.declared.opening.OpenFault.TheVariants.{TooLong};
 
@@ -69,6 +69,7 @@ fn side(alloc: Global, file: &[u8], in_second: bool) -> Result<Contents, OpenFau
     ensures refused { IfErr result (FaultShows (IsUnread file.now)) }
     ensures damage { IfErr result (IsWholeBefore file.now file.now) }
     ensures side { (second : _) (at : ℕ) → result ≡ Err (Damaged second at) → second ≡ in_second }
+    ensures some { result ≢ Err Empty }
 {
     match contents_of(alloc, file) {
         Ok(contents) => Ok(contents),
@@ -83,6 +84,8 @@ pub fn in_use(alloc: Global, a: &[u8], b: &[u8]) -> Result<(Contents, bool), Ope
         it.0.bytes.items) }
     ensures refused { IfErr result (FaultShows (HoldNone a.now b.now)) }
     ensures damage { IfErr result (IsWholeBefore a.now b.now) }
+    ensures empty { result ≡ Err Empty → IsBlank a.now × IsBlank b.now }
+    ensures blank { IsBlank a.now → IsBlank b.now → result ≡ Err Empty }
 {
     if is_blank(a) {
         if is_blank(b) {
