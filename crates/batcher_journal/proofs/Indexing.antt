@@ -3,7 +3,8 @@ use Rattle.batcher_journal.proofs.Words.{◌≡◌, ◌+◌, ◌-◌, ◌<◌, �
 use Rattle.batcher_journal.proofs.Words.{drop, IsEquivalence, All, Contains, cases_lt, get_or_append_left, get_or_default, get_or-take, length-append}
 use Rattle.batcher_journal.proofs.Words.{length-drop, length-take, take-append-drop, take_all, All-append, All-contains, IsFree, LeavesFree, BarsSubject}
 use Rattle.batcher_journal.proofs.Words.{is_below, AreByRounds, IsIndex, Points, Entry, round_in, subject_of, Subject, Vote, Round}
-use Rattle.batcher_journal.proofs.Rounds.{earlier_below, no_contradiction, not_itself, not_reversed, other_subject, still_over}
+use Rattle.batcher_journal.proofs.Words.{list_any, list_any-append, list_any_none, same_round, ◌||◌}
+use Rattle.batcher_journal.proofs.Rounds.{below_other, later_other, earlier_below, no_contradiction, not_itself, not_reversed, other_subject, still_over}
 use Rattle.batcher_journal.proofs.Symmetric.{contradict_symmetric, subjects_symmetric}
 
 -- an entry for where there is none
@@ -141,6 +142,75 @@ module _ {G D : Type 0} (same : D → D → Bool) where
         subst (λ vs. IsFree same vs subject) (take-append-drop (length index) votes)
         (All-append (LeavesFree same subject) (take (length index) votes) (drop (length index) votes) front
         (subst (λ i. IsFree same (drop i votes) subject) is back))
+
+module _ {G D : Type 0} (votes : List (Vote G D)) (index : List Entry) (is_index : IsIndex votes index) where
+  -- Where no entry's vote is of a round, none of the votes is that are in the index.
+  pub none_indexed : (round : Round)
+      → ((k : ℕ) (d : Entry) → k < length index
+      → same_round (get_or index k d).round round ≡ false)
+      → list_any (λ vote. same_round (round_in (subject_of vote)) round)
+      (take (length index) votes) ≡ false
+  none_indexed round each = list_any_none is_of (take (length index) votes) all
+    where
+      is_of : Vote G D → Bool
+      is_of = λ vote. same_round (round_in (subject_of vote)) round
+
+      all : All (λ vote. is_of vote ≡ false) (take (length index) votes)
+      all i v lt =
+          let inside : i < length index = omega (arith, length-take (length index) votes) in
+          let (k, k_lt, at) = is_index.covers i inside in
+          let some : Entry = record { round = round; at = 0 } in
+          subst (λ vote. is_of vote ≡ false) (sym (get_or-take (length index) votes i v inside))
+          (subst (λ n. is_of (get_or votes n v) ≡ false) (at some)
+          (ap (λ r. same_round r round) ((is_index.entries k some k_lt).1 v) ∙ each k some k_lt))
+
+  module _ (round : Round) (place : ℕ)
+      (before : (k : ℕ) (d : Entry) → k < place → is_below round (get_or index k d).round ≡ true) where
+    earlier : (k : ℕ) (d : Entry) → k < place → same_round (get_or index k d).round round ≡ false
+    earlier k d lt = below_other round (get_or index k d).round (before k d lt)
+
+    -- so where all entries are of earlier rounds,
+    pub all_earlier : length index ≤ place
+        → list_any (λ vote. same_round (round_in (subject_of vote)) round)
+        (take (length index) votes) ≡ false
+    all_earlier le = none_indexed round (λ k d lt. earlier k d (omega arith))
+
+    -- or where the first of the others is of a later round
+    pub first_later : (z : Entry) (vote : Vote G D) → place < length index
+        → ((k : ℕ) (d : Entry) → place ≤ k → k < length index
+        → is_below round (get_or index k d).round ≡ false)
+        → vote ≡ get_or votes (get_or index place z).at vote
+        → same_round (round_in (subject_of vote)) round ≡ false
+        → list_any (λ vote. same_round (round_in (subject_of vote)) round)
+        (take (length index) votes) ≡ false
+    first_later z vote lt behind is other = none_indexed round each
+      where
+        of_vote : round_in (subject_of vote) ≡ (get_or index place z).round
+        of_vote = ap (λ (v : Vote G D). round_in (subject_of v)) is ∙ (is_index.entries place z lt).1 vote
+
+        each : (k : ℕ) (d : Entry) → k < length index
+            → same_round (get_or index k d).round round ≡ false
+        each k d k_lt = elim (cases_lt k place) [
+          | inl lower ↦ earlier k d lower
+          | inr le ↦
+              let here : get_or index place z ≡ get_or index place d = get_or_default index place z d lt in
+              later_other round (get_or index place d).round (get_or index k d).round (behind place d (omega arith) lt)
+              (ap (λ r. same_round r round) (sym (of_vote ∙ ap (λ (e : Entry). e.round) here)) ∙ other)
+              (is_index.by_rounds place k d le k_lt)
+        ]
+
+  -- Where none in the index is of a round, one of all is one of the others.
+  pub among_others : (round : Round) (n : ℕ) → n ≡ length index
+      → list_any (λ vote. same_round (round_in (subject_of vote)) round)
+      (take (length index) votes) ≡ false
+      → list_any (λ vote. same_round (round_in (subject_of vote)) round) (drop n votes)
+      ≡ list_any (λ vote. same_round (round_in (subject_of vote)) round) votes
+  among_others round n is none =
+      let is_of : Vote G D → Bool = λ vote. same_round (round_in (subject_of vote)) round in
+      ap (λ i. list_any is_of (drop i votes)) is
+      ∙ ap (λ b. b || list_any is_of (drop (length index) votes)) (sym none)
+      ∙ sym (list_any-append is_of (take (length index) votes) (drop (length index) votes))
+      ∙ ap (list_any is_of) (take-append-drop (length index) votes)
 
 -- One more entry, in its place.
 module _ {G D : Type 0} (votes : List (Vote G D)) (old new : List Entry) (p : ℕ) (entry : Entry)

@@ -2,6 +2,7 @@
 use Rattle.batcher_journal.proofs.Words.{◌≡◌, ◌⊎◌, ◌+◌, ◌<◌, ◌≤◌, ◌++◌, ◌∙◌, ℕ, zero, suc, Bool, true, false, not, cond, List, [], ◌∷◌, ap, arith, drop, get_or}
 use Rattle.batcher_journal.proofs.Words.{inl, inr, length, refl, subst, sym, take, append-nil, get_or_default, take-append-drop, take_all, All-filter}
 use Rattle.batcher_journal.proofs.Words.{filter_more, Format, MayBeWrittenBehind, IsFree, LeavesFree, from_floor, is_below, is_over, IsReady, first_of}
+use Rattle.batcher_journal.proofs.Words.{IsTooLongFor}
 use Rattle.batcher_journal.proofs.Words.{left_by_floor, raised, Contents, IsText, OwnerFields, subject_of, Vote, Round}
 use Rattle.batcher_journal.proofs.Sorting.{all_of}
 use Rattle.batcher_journal.proofs.Following.{followed}
@@ -88,3 +89,9 @@ module _ {G D L : Type 0} (f : Format (Vote G D)) (same : D → D → Bool) (is_
       inl (subst (λ t. IsText f t (first_of w old)) (sym is) ready.text)
   raise_leaves left bytes up text (inr is) =
       inr (up, subst (λ t. IsText f t Raised) (sym is) (subst (IsText f bytes) raised_is text))
+
+  -- the bytes of that don't fit in
+  pub too_long : (is_too_small : L → List ℕ → Type 0) (bytes : List ℕ) → IsText f bytes new
+      → is_too_small log bytes → IsTooLongFor f is_too_small log Raised
+  too_long is_too_small bytes text small =
+      record { text = bytes; is_text = subst (IsText f bytes) raised_is text; too_small = small }

@@ -1,5 +1,5 @@
 -- Votes of a round that is over, and votes that aren't.
-use Rattle.batcher_journal.proofs.Words.{◌≡◌, ◌⊎◌, ◌&&◌, ◌||◌, ◌∙◌, ◌<◌, Bool, true, false, arith, eqb, inl, inr, ltb, refl, sym, cases_eq, cases_lt, eq-eqb}
+use Rattle.batcher_journal.proofs.Words.{◌≡◌, ◌⊎◌, ◌&&◌, ◌||◌, ◌∙◌, ◌<◌, Bool, true, false, arith, eqb, inl, inr, ltb, refl, sym, cases_eq, cases_lt, eq-eqb, ℕ}
 use Rattle.batcher_journal.proofs.Words.{eqb-true, ltb-true, lt-ltb, subjects_contradict, is_below, round_in, same_proposal, same_round, same_subject, Proposal}
 use Rattle.batcher_journal.proofs.Words.{Subject, Notarize, Nullify, Finalize, Round}
 
@@ -8,7 +8,7 @@ both true b e = (refl, e)
 both false b e = absurd cc
 
 -- rounds that are the same are on one side of a floor
-same_side : (floor a b : Round) → same_round a b ≡ true → is_below floor a ≡ is_below floor b
+pub same_side : (floor a b : Round) → same_round a b ≡ true → is_below floor a ≡ is_below floor b
 same_side floor a b same =
     let parts = both (eqb a.epoch.0 b.epoch.0) (eqb a.view.0 b.view.0) same in
     rw (eqb-true a.epoch.0 b.epoch.0 parts.0, eqb-true a.view.0 b.view.0 parts.1) refl
@@ -169,3 +169,58 @@ still_over old new round up over = is_before new round (of_parts (before old rou
         | inr other ↦ inl (omega (arith, same.0, other))
       ]
     ]
+
+-- A round that is before another is another.
+pub below_other : (floor round : Round) → is_below floor round ≡ true
+    → same_round round floor ≡ false
+below_other floor round below = of_bool (same_round round floor) refl
+  where
+    wrong : true ≡ false → ⊥
+    wrong w = absurd cc
+
+    of_bool : (b : Bool) → same_round round floor ≡ b → b ≡ false
+    of_bool true e = absurd (wrong (sym below ∙ same_side floor round floor e ∙ not_itself floor))
+    of_bool false e = refl
+
+-- Of two rounds that aren't the same one is before the other.
+pub neither_same : (a b : Round) → is_below a b ≡ false → is_below b a ≡ false
+    → same_round b a ≡ true
+neither_same a b not_b not_a = of_cases (cases_eq b.epoch.0 a.epoch.0) (cases_eq b.view.0 a.view.0)
+  where
+    wrong : true ≡ false → ⊥
+    wrong w = absurd cc
+
+    apart : IsBefore a b ⊎ IsBefore b a → ⊥
+    apart (inl lower) = wrong (sym (is_before a b lower) ∙ not_b)
+    apart (inr lower) = wrong (sym (is_before b a lower) ∙ not_a)
+
+    ordered : (m n : ℕ) → (m ≡ n → ⊥) → (m < n) ⊎ (n < m)
+    ordered m n other = elim (cases_lt m n) [ inl lt ↦ inl lt | inr ge ↦ inr (omega (arith, other)) ]
+
+    of_epochs : (b.epoch.0 < a.epoch.0) ⊎ (a.epoch.0 < b.epoch.0) → ⊥
+    of_epochs (inl lt) = apart (inl (inl lt))
+    of_epochs (inr lt) = apart (inr (inl lt))
+
+    of_views : b.epoch.0 ≡ a.epoch.0 → (b.view.0 < a.view.0) ⊎ (a.view.0 < b.view.0) → ⊥
+    of_views e (inl lt) = apart (inl (inr (e, lt)))
+    of_views e (inr lt) = apart (inr (inr (sym e, lt)))
+
+    of_cases : (b.epoch.0 ≡ a.epoch.0) ⊎ (b.epoch.0 ≡ a.epoch.0 → ⊥)
+        → (b.view.0 ≡ a.view.0) ⊎ (b.view.0 ≡ a.view.0 → ⊥) → same_round b a ≡ true
+    of_cases (inl epochs) (inl views) = rw (eq-eqb b.epoch.0 a.epoch.0 epochs, eq-eqb b.view.0 a.view.0 views) refl
+    of_cases (inl epochs) (inr other) = absurd (of_views epochs (ordered b.view.0 a.view.0 other))
+    of_cases (inr other) views = absurd (of_epochs (ordered b.epoch.0 a.epoch.0 other))
+
+-- Behind a later round than this one no round is this one.
+pub later_other : (round later behind : Round) → is_below round later ≡ false
+    → same_round later round ≡ false → is_below later behind ≡ false
+    → same_round behind round ≡ false
+later_other round later behind from other up = of_bool (same_round behind round) refl
+  where
+    wrong : true ≡ false → ⊥
+    wrong w = absurd cc
+
+    of_bool : (b : Bool) → same_round behind round ≡ b → b ≡ false
+    of_bool true e =
+        absurd (wrong (sym (neither_same round later from (sym (same_side later behind round e) ∙ up)) ∙ other))
+    of_bool false e = refl

@@ -1,7 +1,9 @@
 -- The parts of a journal's bytes.
-use Rattle.batcher_journal.proofs.Words.{◌≡◌, ◌++◌, ◌∙◌, Fits, ℕ, Bool, List, [], Ok, Err, ap, arith, get_or, subst, sym, w8, append-nil, AreBytes-rest}
+use Rattle.batcher_journal.proofs.Words.{◌≡◌, ◌≢◌, ◌++◌, ◌∙◌, Fits, ℕ, Bool, List, [], Ok, Err, ap, arith, get_or, subst, sym, w8, append-nil, AreBytes-rest}
 use Rattle.batcher_journal.proofs.Words.{bytes_is_exact, ok_is, pair_is_exact, u32_is_exact, AreBytes, Format, IsExact, bytes_format, pair, u32_format}
-use Rattle.batcher_journal.proofs.Words.{versioned_is_exact, DecodeFault, Vote, Round, MayBeWrittenBehind, Cause, IsOneText, Unfollowed, AreRecords, Certified}
+use Rattle.batcher_journal.proofs.Words.{versioned_is_exact, DecodeFault, Version, refl, Vote, Round, MayBeWrittenBehind, Cause, IsOneText, Unfollowed}
+use Rattle.batcher_journal.proofs.Words.{AreNoText, MayBeOf, AreRecords, Certified, SaysNoOwner, false, length, inl, inr, ◌∷◌}
+use Rattle.std.specs.Prelude.{◌==◌, Result}
 use Rattle.batcher_journal.proofs.Words.{HasRecords, Record, certificates_of, certified_format, record_format, records_text, votes_of, Contents, IsText}
 use Rattle.batcher_journal.proofs.Words.{OwnerFields, owner_format, OpenFault, Contradiction, Malformed, NotBegun, OtherKeys, OtherLengths, OtherNamespace}
 use Rattle.batcher_journal.proofs.Words.{OtherParticipant, OtherVersion, OutOfMemory}
@@ -21,6 +23,14 @@ parted floor finalization rest = ((floor, finalization), rest)
 
 abbrev headed : OwnerFields → List ℕ → OwnerFields × List ℕ
 headed owner rest = (owner, rest)
+
+pub some_bytes : (bytes : List ℕ) → false ≡ (length bytes == 0) → bytes ≢ []
+some_bytes [] not none = absurd cc
+some_bytes (b ∷ bytes) not none = absurd cc
+
+same_fault : {A : Type 0} (x y : DecodeFault) (read : Result A DecodeFault) → read ≡ Err x
+    → read ≡ Err y → x ≡ y
+same_fault x y read is also = cc
 
 not_both : {A : Type 0} (x : A) (fault : DecodeFault) → Ok x ≡ Err fault → ⊥
 not_both x fault e = absurd cc
@@ -63,35 +73,36 @@ module _ {G D : Type 0} (f : Format (Vote G D)) (exact : IsExact f) (written : L
             → after ≡ records_text f others → ⊥) → ⊥
         no_records none = none it.records it.values (ap (λ (p : Certified × List ℕ). p.1) whole)
 
-        pub no_follow : (same : D → D → Bool) (votes : List (Vote G D)) (its : List Certified)
-            → HasRecords f after votes its [] → (MayBeWrittenBehind same at [] votes → ⊥)
-            → MayBeWrittenBehind same contents.floor [] contents.votes → ⊥
-        no_follow same votes its read none follows =
-            let list : it.records ≡ read.records =
-            one_list (record_format f) (record_is_exact f exact) (record_some f) it.records read.records it.values read.values
-            (sym (ap (λ (p : Certified × List ℕ). p.1) whole) ∙ read.parts ∙ append-nil (records_text f read.records)) in
-            let list_is : contents.votes ≡ votes =
-            it.votes_are ∙ ap votes_of list ∙ sym read.votes_are in
-            let place_is : contents.floor ≡ at = sym (ap (λ (p : Certified × List ℕ). p.0.0) whole) in
-            none (subst (λ r. MayBeWrittenBehind same r [] votes) place_is (subst (MayBeWrittenBehind same contents.floor []) list_is follows))
+  -- whose they are was read: they aren't another's
+  pub read_by : (owner : OwnerFields) (rest : List ℕ)
+      → owner_format.decoding written ≡ Ok (owner, rest) → written ≢ [] → MayBeOf written owner
+  read_by owner rest read some = record {
+    some = some;
+    of_version = λ bad. not_both (owner, rest) Version (sym read ∙ bad);
+    of_owner = λ other after is.
+        ap (λ (p : OwnerFields × List ℕ). p.0) (ok_is (headed other after) (headed owner rest) (sym is ∙ read));
+  }
 
-  -- votes that aren't a journal's are of none with this owner
-  pub refused : (owner other : OwnerFields) (rest : List ℕ)
-      → owner_format.decoding written ≡ Ok (other, rest)
-      → (at : Round) (lent after : List ℕ) → certified_format.decoding rest ≡ Ok ((at, lent), after)
-      → (same : D → D → Bool) (votes : List (Vote G D)) (its : List Certified)
-      → HasRecords f after votes its [] → (fault : OpenFault) → Unfollowed same at votes fault
+  -- it wasn't read: they are no journal's
+  no_journal : (owner : OwnerFields) (fault : DecodeFault)
+      → owner_format.decoding written ≡ Err fault → fault ≢ Version → written ≢ []
+      → AreNoText f written owner
+  no_journal owner fault read known some = record {
+    may_be = record {
+      some = some;
+      of_version = λ bad. known (same_fault fault Version (owner_format.decoding written) read bad);
+      of_owner = λ other rest is. absurd (not_both (other, rest) fault (sym is ∙ read));
+    };
+    none = λ contents text. no_owner contents text fault read;
+  }
+
+  pub unread : (owner : OwnerFields) (same : D → D → Bool) (read : DecodeFault) (fault : OpenFault)
+      → owner_format.decoding written ≡ Err read → SaysNoOwner read fault → written ≢ []
       → Cause f written owner same fault
-  refused owner other rest read at lent after found same votes its records OutOfMemory why = tt
-  refused owner other rest read at lent after found same votes its records Contradiction why =
-      λ contents is text. no_follow contents text other rest read at lent after found same votes its records why
-  refused owner other rest read at lent after found same votes its records NotBegun why = absurd why
-  refused owner other rest read at lent after found same votes its records OtherVersion why = absurd why
-  refused owner other rest read at lent after found same votes its records OtherLengths why = absurd why
-  refused owner other rest read at lent after found same votes its records OtherParticipant why = absurd why
-  refused owner other rest read at lent after found same votes its records OtherKeys why = absurd why
-  refused owner other rest read at lent after found same votes its records OtherNamespace why = absurd why
-  refused owner other rest read at lent after found same votes its records Malformed why = absurd why
+  unread owner same read fault is (inl (version, other)) some =
+      subst (Cause f written owner same) (sym other) (is ∙ ap (λ (e : DecodeFault). Err e) version)
+  unread owner same read fault is (inr (known, bad)) some =
+      subst (Cause f written owner same) (sym bad) (no_journal owner read is known some)
 
   -- what was read is all that is there
   pub found_text : (contents : Contents G D) (other : OwnerFields) (rest after : List ℕ)
@@ -117,6 +128,32 @@ module _ {G D : Type 0} (f : Format (Vote G D)) (exact : IsExact f) (written : L
         votes_are = records.votes_are;
         certificates_are = records.certificates_are;
       }
+
+  -- votes that aren't a journal's were written by none
+  pub refused : (owner other : OwnerFields) (rest after : List ℕ)
+      → ((i : ℕ) → Fits w8 (get_or written i 0)) → owner_format.decoding written ≡ Ok (other, rest)
+      → other ≡ owner → (at : Round) (lent : List ℕ)
+      → certified_format.decoding rest ≡ Ok ((at, lent), after)
+      → (same : D → D → Bool) (votes : List (Vote G D)) (its : List Certified)
+      → HasRecords f after votes its [] → (fault : OpenFault) → Unfollowed same at votes fault
+      → Cause f written owner same fault
+  refused owner other rest after fits read is at lent found same votes its records OutOfMemory why = tt
+  refused owner other rest after fits read is at lent found same votes its records Contradiction why =
+      let contents : Contents G D =
+      record { owner = owner; floor = at; finalization = lent; votes = votes; certificates = its } in
+      record {
+        contents = contents;
+        owner_is = refl;
+        text = found_text contents other rest after fits read is found records;
+        unfollowed = why;
+      }
+  refused owner other rest after fits read is at lent found same votes its records NotBegun why = absurd why
+  refused owner other rest after fits read is at lent found same votes its records OtherVersion why = absurd why
+  refused owner other rest after fits read is at lent found same votes its records OtherLengths why = absurd why
+  refused owner other rest after fits read is at lent found same votes its records OtherParticipant why = absurd why
+  refused owner other rest after fits read is at lent found same votes its records OtherKeys why = absurd why
+  refused owner other rest after fits read is at lent found same votes its records OtherNamespace why = absurd why
+  refused owner other rest after fits read is at lent found same votes its records Malformed why = absurd why
 
 -- one journal has these bytes
 pub one_text : {G D : Type 0} (f : Format (Vote G D)) → IsExact f → IsOneText f

@@ -5,7 +5,7 @@ use Rattle.batcher_types.specs.declared.positions.Round.{Round}
 use Rattle.batcher_bytes.specs.Format.{Format}
 use Rattle.batcher_journal.specs.Answers.{MayBeWrittenBehind}
 use Rattle.batcher_journal.specs.Floors.{certified_from, from_floor, is_below}
-use Rattle.batcher_journal.specs.Records.{Certified}
+use Rattle.batcher_journal.specs.Records.{Certified, records_of, records_text}
 use Rattle.batcher_journal.specs.Text.{Contents, IsText, OwnerFields}
 
 -- What a journal has: a log, what is in it, the certificates that the next write puts there, and
@@ -62,6 +62,19 @@ module _ {G D : Type 0} where
   abbrev pub raised : Contents G D → List Certified → OwnerFields → Round → List ℕ → Contents G D
   raised old unwritten owner floor finalization =
       left_by_floor owner floor finalization old.votes (old.certificates ++ unwritten)
+
+module _ {G D L : Type 0} (format : Format (Vote G D)) where
+  -- These votes and certificates don't fit into a log, behind what is there.
+  abbrev pub HasNoRoomFor : (L → List ℕ → Type 0) → L → List (Vote G D) → List Certified → Type 0
+  HasNoRoomFor is_full log votes certificates =
+      is_full log (records_text format (records_of votes certificates))
+
+  -- The bytes of these contents don't fit into a log, in the place of what is there.
+  pub record IsTooLongFor (is_too_small : L → List ℕ → Type 0) (log : L) (contents : Contents G D)
+      : Type 0 where
+    pub text : List ℕ
+    pub is_text : IsText format text contents
+    pub too_small : is_too_small log text
 
 module _ {G D L : Type 0} (format : Format (Vote G D)) (same : D → D → Bool) where
   -- What is in the log is what is known, of which nothing is under way, and each

@@ -3,7 +3,7 @@
 ghost use Rattle.std.specs.Prelude.{◌≡◌, ◌++◌, [], IfErr, IfOk, List, ℕ, OnOk};
 ghost use Rattle.batcher_bytes.specs.Messages.{vote_format};
 ghost use Rattle.batcher_journal.specs.Answers.{MayBeWrittenBehind};
-ghost use Rattle.batcher_journal.specs.Causes.{Cause, Differ, Unfollowed};
+ghost use Rattle.batcher_journal.specs.Causes.{Cause, Differ, SaysNoOwner, Unfollowed};
 ghost use Rattle.batcher_journal.specs.Floors.{certified_from, from_floor};
 ghost use Rattle.batcher_journal.specs.Ready.{begun, left_by_floor};
 ghost use Rattle.batcher_journal.specs.Seen.{contents_of};
@@ -27,6 +27,16 @@ pub struct Kept<G: Copy, D: Digest> {
     pub finalization: Vec<u8>,
     pub votes: IndexedVotes<G, D>,
     pub certificates: Vec<Certified>,
+}
+
+// Why bytes don't say whose journal they are.
+fn unread(fault: DecodeFault) -> OpenFault
+    ensures { SaysNoOwner fault result }
+{
+    match fault {
+        DecodeFault::Version => OpenFault::OtherVersion,
+        _ => OpenFault::Malformed,
+    }
 }
 
 // Whether a journal is this owner's, and else what differs first.
@@ -96,8 +106,7 @@ pub fn kept_in<G: Codec, D: Digest + Codec>(
     }
     let (other, rest) = match owner_in(bytes) {
         Ok(it) => it,
-        Err(DecodeFault::Version) => return Err(OpenFault::OtherVersion),
-        Err(_) => return Err(OpenFault::Malformed),
+        Err(fault) => return Err(unread(fault)),
     };
     match check_owner(&other, owner) {
         Ok(()) => {}

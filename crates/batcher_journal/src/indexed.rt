@@ -3,12 +3,13 @@
 ghost use Rattle.std.specs.Prelude.{◌≡◌, ◌⊎◌, ◌<◌, ◌≤◌, ◌+◌, ◌++◌, ◌∷◌, [], IfSome, List};
 ghost use Rattle.std.specs.Prelude.{MatchBool, None, OnErr, OnOk, false, length, slice_index_or};
 ghost use Rattle.std.specs.Prelude.{take, true, ℕ};
+ghost use Rattle.std.specs.List.{list_any};
 ghost use Rattle.batcher.specs.Reports.{subjects_contradict};
 ghost use Rattle.batcher_journal.specs.Contradictions.{IsFree, LeavesFree, BarsSubject};
 ghost use Rattle.batcher_journal.specs.Floors.{is_below};
 ghost use Rattle.batcher_journal.specs.Index.{AreByRounds, IsIndex};
 ghost use Rattle.batcher_journal.specs.declared.indexed.Entry.{Entry};
-ghost use Rattle.batcher_types.specs.Votes.{same_subject, subject_of};
+ghost use Rattle.batcher_types.specs.Votes.{round_in, same_round, same_subject, subject_of};
 
 use crate::asking::is_before;
 use batcher_evidence::contradict;
@@ -104,6 +105,17 @@ impl<G: Copy, D: Digest> IndexedVotes<G, D> {
             None => find_among(&self.votes[self.index.len()..], subject),
         }
     }
+
+    /// Whether one of them is of the round.
+    pub fn has_one_of(&self, round: Round) -> bool
+        ensures { result
+            ≡ list_any (λ vote. same_round (round_in (subject_of vote)) round) self.now }
+    {
+        if has_one_indexed(&self.votes, &self.index, round) {
+            return true;
+        }
+        has_one_among(&self.votes[self.index.len()..], round)
+    }
 }
 
 // Drops all votes but the first, and an index of others.
@@ -166,6 +178,32 @@ fn find_indexed<G: Copy, D: Digest>(
         }
     }
     None
+}
+
+// Whether a vote in the index is of the round.
+fn has_one_indexed<G: Copy, D: Digest>(votes: &[Vote<G, D>], index: &[Entry], round: Round) -> bool
+    requires { IsIndex votes.now index.now }
+    ensures yes { result ≡ true
+        → list_any (λ vote. same_round (round_in (subject_of vote)) round) votes.now ≡ true }
+    ensures no { result ≡ false
+        → list_any (λ vote. same_round (round_in (subject_of vote)) round)
+        (take (length index.now) votes.now) ≡ false }
+{
+    let place = place_of(index, round);
+    if place < index.len() {
+        let entry = index[place];
+        let vote = &votes[entry.at];
+        return vote.round() == round;
+    }
+    false
+}
+
+// Whether a vote among these is of the round.
+fn has_one_among<G: Copy, D: Digest>(votes: &[Vote<G, D>], round: Round) -> bool
+    ensures { result
+        ≡ list_any (λ vote. same_round (round_in (subject_of vote)) round) votes.now }
+{
+    votes.iter().any(|vote| vote.round() == round)
 }
 
 // Where a round begins in the index, or is to.

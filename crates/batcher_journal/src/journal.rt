@@ -2,13 +2,14 @@
 
 ghost use Rattle.std.specs.Prelude.{◌≡◌, ◌≢◌, ◌⊎◌, ◌++◌, ◌≤◌, [], Err, IfErr, IfOk, List, OnErr};
 ghost use Rattle.std.specs.Prelude.{OnOk, drop, length, ℕ, true, false};
+ghost use Rattle.std.specs.List.{list_any};
 ghost use Rattle.batcher_bytes.specs.Messages.{vote_format};
 ghost use Rattle.batcher_journal.specs.Answers.{Answers, MayBeWrittenBehind};
 ghost use Rattle.batcher_journal.specs.Causes.{Cause, IsOneText};
 ghost use Rattle.batcher_journal.specs.Floors.{is_below};
 ghost use Rattle.batcher_journal.specs.Lives.{NeverContradicts};
-ghost use Rattle.batcher_journal.specs.Ready.{HasContents, IsAsBefore, IsOnDisk, JournalView};
-ghost use Rattle.batcher_journal.specs.Ready.{Keeps};
+ghost use Rattle.batcher_journal.specs.Ready.{HasContents, HasNoRoomFor, IsAsBefore, IsOnDisk};
+ghost use Rattle.batcher_journal.specs.Ready.{IsTooLongFor, JournalView, Keeps};
 ghost use Rattle.batcher_journal.specs.Ready.{RaiseLeaves, WriteLeaves, begun, raised, with_more};
 ghost use Rattle.batcher_journal.specs.Records.{AreRecords, Certified as KeptBytes, records_of};
 ghost use Rattle.batcher_journal.specs.Records.{records_text};
@@ -28,6 +29,7 @@ ghost use Rattle.batcher_bytes.specs.declared.log.LogFault.TheVariants.{Failed a
 ghost use Rattle.batcher_bytes.specs.declared.log.LogFault.TheVariants.{Full as LogFull};
 ghost use Rattle.batcher_bytes.specs.declared.log.LogFault.TheVariants.{OutOfMemory as LogMemory};
 ghost use Rattle.batcher_bytes.specs.Copies.{KeepsCopy, is_done_in, is_given};
+ghost use Rattle.batcher_types.specs.Votes.{round_in, same_round, subject_of};
 
 use crate::asking::{answer_of, is_before, may_follow};
 use crate::contents::{Kept, Raised, first_text, kept_in, raise};
@@ -280,6 +282,14 @@ impl<G: Codec, D: Digest + Codec, L: Log> Journal<G, D, L> {
         self.kept.votes.as_slice()
     }
 
+    /// Whether one of the votes is of the round. It is found without going over them.
+    pub fn has_vote_of(&self, round: Round) -> bool
+        ensures { result ≡ list_any (λ vote. same_round (round_in (subject_of vote)) round)
+            self.now.contents.votes }
+    {
+        self.kept.votes.has_one_of(round)
+    }
+
     /// The certificates that are on the disk beside them.
     pub fn certificates(&self) -> &[Certified]
         ensures { result.now ≡ self.now.contents.certificates }
@@ -335,6 +345,8 @@ impl<G: Codec, D: Digest + Codec, L: Log> Journal<G, D, L> {
             L.is_settled L.written self.new) }
         ensures memory { result ≡ Err NoMemory → IsAsBefore self.old self.new }
         ensures full { result ≡ Err NoRoom → IsAsBefore self.old self.new }
+        ensures no_room { result ≡ Err NoRoom → HasNoRoomFor (vote_format G.format D.format)
+            L.is_full self.old.log votes.now self.old.unwritten }
         ensures not_free { result ≡ Err NotFree → (self.new ≡ self.old) × (MayBeWrittenBehind D.eq
             self.old.contents.floor self.old.contents.votes votes.now → ⊥) }
         ensures closed { result ≡ Err WriteClosed → (self.new.is_open ≡ false)
@@ -384,6 +396,9 @@ impl<G: Codec, D: Digest + Codec, L: Log> Journal<G, D, L> {
             L.is_settled L.written self.new) }
         ensures memory { result ≡ Err RaiseMemory → IsAsBefore self.old self.new }
         ensures full { result ≡ Err RaiseFull → IsAsBefore self.old self.new }
+        ensures too_long { result ≡ Err RaiseFull → IsTooLongFor (vote_format G.format D.format)
+            L.is_too_small self.old.log (raised self.old.contents self.old.unwritten
+            self.old.contents.owner floor finalization.now) }
         ensures lower { result ≡ Err Lower → (self.new ≡ self.old)
             × (is_below self.old.contents.floor floor ≡ true) }
         ensures closed { result ≡ Err RaiseClosed → (self.new.is_open ≡ false)
@@ -424,6 +439,9 @@ impl<G: Codec, D: Digest + Codec, L: Log> Journal<G, D, L> {
             L.is_settled L.written self.new) }
         ensures memory { result ≡ Err RaiseMemory → IsAsBefore self.old self.new }
         ensures full { result ≡ Err RaiseFull → IsAsBefore self.old self.new }
+        ensures too_long { result ≡ Err RaiseFull → IsTooLongFor (vote_format G.format D.format)
+            L.is_too_small self.old.log (raised self.old.contents self.old.unwritten
+            (fields_of owner.now) floor finalization.now) }
         ensures lower { result ≡ Err Lower → (self.new ≡ self.old)
             × (is_below self.old.contents.floor floor ≡ true) }
         ensures closed { result ≡ Err RaiseClosed → (self.new.is_open ≡ false)
@@ -499,6 +517,8 @@ fn write_to<G: Codec, D: Digest + Codec, L: Log>(
         × (votes.new ≡ votes.old ++ more.now)) }
     ensures kept { (result ≡ Err LogMemory) ⊎ (result ≡ Err LogFull)
         → L.is_settled log.new × (L.written log.new ≡ L.written log.old) }
+    ensures full { result ≡ Err LogFull → L.is_full log.old
+        (records_text (vote_format G.format D.format) (records_of more.now certificates.now)) }
     ensures failed { result ≡ Err LogFailed → L.has_failed log.new }
     ensures err { OnErr result (votes.new ≡ votes.old) }
     ensures leaves { (left : List ℕ) → L.is_honest log.new → L.may_leave log.new left

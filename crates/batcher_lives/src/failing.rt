@@ -86,6 +86,10 @@ impl Log for FailingLog<'_> {
 
     ghost has_failed = { λ log. log.has_failed ≡ true };
 
+    ghost is_full = { λ log bytes. ⊥ };
+
+    ghost is_too_small = { λ log bytes. ⊥ };
+
     ghost is_copied_as = { λ log copy. Unit {0} };
 
     ghost settled = { λ log left honest settled may. may };

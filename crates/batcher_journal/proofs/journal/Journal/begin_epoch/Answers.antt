@@ -1,6 +1,6 @@
 use Rattle.batcher_journal.proofs.Words.{Err, ap, arith, inl, inr, subst, sym, true, ◌∙◌, ◌≡◌, vote_format, RaiseLeaves, left_by_floor, contents_of, IsText}
-use Rattle.batcher_journal.proofs.Words.{fields_of}
-use Rattle.batcher_journal.proofs.Raises.{raise_leaves, ready_raised}
+use Rattle.batcher_journal.proofs.Words.{fields_of, raised, IsTooLongFor}
+use Rattle.batcher_journal.proofs.Raises.{raise_leaves, ready_raised, too_long}
 use Rattle.batcher_journal.proofs.Writes.{ready_same, stays}
 use Rattle.batcher_journal.proofs.journal.Journal.begin_epoch.Goals as goal
 
@@ -139,3 +139,18 @@ returns-clause-leaves g c =
 pub returns-clause-honest : goal.returns-clause-honest
 returns-clause-honest g c =
     subst (λ v. g.L.Log.is_honest c.replace.new.self → g.L.Log.is_honest v.log) c.self.view_is c.replace.ensures.honest
+
+pub returns-in-Err-Full-clause-too_long : goal.returns-in-Err-Full-clause-too_long
+returns-in-Err-Full-clause-too_long g c = λ is.
+    let format = vote_format g.G.Codec.format g.D.Codec.format in
+    subst (λ v. IsTooLongFor format g.L.Log.is_too_small v.log (raised v.contents v.unwritten
+    (fields_of c.args.owner.now) c.args.floor c.args.finalization.now)) c.self.view_is
+    (too_long format g.D.PartialEq.eq g.L.Log.is_settled g.L.Log.written
+    c.self.inside.log c.self.inside.written (contents_of c.self.inside.kept) (c.self.invariant.1 c.if-not-self.false)
+    (fields_of c.args.owner.now) c.args.floor c.args.finalization.now
+    (contents_of c.in-Ok.raised.kept) (c.in-Ok.ensures.kept
+    ∙ ap (λ vs. left_by_floor (fields_of c.args.owner.now) c.args.floor c.args.finalization.now vs c.deref.result.now) c.as_slice-votes.ensures
+    ∙ ap (λ its. left_by_floor (fields_of c.args.owner.now) c.args.floor c.args.finalization.now c.self.inside.kept.votes its) c.deref.ensures.value)
+    g.L.Log.is_too_small c.deref-2.result.now
+    (subst (λ t. IsText format t (contents_of c.in-Ok.raised.kept)) (sym c.deref-2.ensures.value) c.in-Ok.ensures.text)
+    (c.in-Err-Full.ensures.full (ap (λ e. Err e) c.in-Err-Full.field-0-is)))

@@ -1,5 +1,6 @@
 use Rattle.batcher_journal.proofs.Words.{Err, ap, arith, drop, inl, inr, refl, subst, sym, true, ◌++◌, ◌∙◌, ◌≡◌, ◌⊎◌, vote_format, MayBeWrittenBehind}
-use Rattle.batcher_journal.proofs.Words.{HasContents, IsReady, WriteLeaves, first_of, with_more, AreRecords, records_of, records_text, contents_of}
+use Rattle.batcher_journal.proofs.Words.{HasContents, HasNoRoomFor, IsReady, WriteLeaves, first_of, with_more, AreRecords, records_of, records_text}
+use Rattle.batcher_journal.proofs.Words.{contents_of}
 use Rattle.batcher_journal.proofs.Indexing.{rest}
 use Rattle.batcher_journal.proofs.Sorting.{made, none_left}
 use Rattle.batcher_journal.proofs.Writes.{more_is, ready_more, ready_same, stays, write_leaves}
@@ -168,3 +169,11 @@ returns-in-Err-Failed-clause-leaves g c =
     ⊎ ((left ≡ g.L.Log.written c.self.inside.log ++ records_text (vote_format g.G.Codec.format g.D.Codec.format) (records_of c.args.votes.now its))
     × AreRecords (vote_format g.G.Codec.format g.D.Codec.format) (records_of c.args.votes.now its))) (rest c.self.inside.written c.deref.result.now
     c.self.inside.kept.certificates.items c.deref.ensures.value) (c.in-Err-Failed.ensures.leaves left honest may)))
+
+pub returns-in-Err-Full-clause-no_room : goal.returns-in-Err-Full-clause-no_room
+returns-in-Err-Full-clause-no_room g c = λ is.
+    let format = vote_format g.G.Codec.format g.D.Codec.format in
+    subst (λ v. HasNoRoomFor format g.L.Log.is_full v.log c.args.votes.now v.unwritten) c.self.view_is
+    (subst (λ its. g.L.Log.is_full c.self.inside.log (records_text format (records_of c.args.votes.now its)))
+    (rest c.self.inside.written c.deref.result.now c.self.inside.kept.certificates.items c.deref.ensures.value)
+    (c.in-Err-Full.ensures.full (ap (λ e. Err e) c.in-Err-Full.field-0-is)))
