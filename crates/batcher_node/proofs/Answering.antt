@@ -12,7 +12,7 @@ use Rattle.batcher_node.proofs.Words.{vote_came, certificate_came, vote_cast, vi
 use Rattle.batcher_node.proofs.Words.{view_history, at_view, peer_in, is_peer, cause_by, invalid_in, NodeView, NodeConfig, node_config, cause_at, slot_at}
 use Rattle.batcher_node.proofs.Words.{fresh_round, MakesCall, MakesCallThere, NeedsThere, IsNext, IsTended, HasChanged, NodeRepresents, receipt, receipt_from}
 use Rattle.batcher_node.proofs.Words.{is_within, config_of, is_to_be_tried, ViewRepresents, NodeMeets, SimulatesCast, SimulatesForward, MayNeedIn, NextMayNeed}
-use Rattle.batcher_node.proofs.Words.{cast_by}
+use Rattle.batcher_node.proofs.Words.{cast_by, forgery_came, is_ahead, is_unblocked, is_none}
 use Rattle.batcher_node.proofs.Calling.{NamesFault}
 use Rattle.batcher_node.proofs.Representation.{told_one, told_none, config_by}
 
@@ -234,6 +234,38 @@ module _ {S D K G C : Type 0} (meaning : S → Meaning D K G C) (compare_keys : 
       (sym (ap (λ b. cond b (Recorded (certificate_answer (config_of x past view) (view_history view past) certificate)) Forged) bad)
       ∙ ap (λ b. cond b Known (cond (certifies_itself (meaning old.scheme) certificate)
       (Recorded (certificate_answer (config_of x past view) (view_history view past) certificate)) Forged)) (absent h)))
+      h
+
+  -- what isn't blocked has no cause
+  uncaused : (o : Option Cause) → is_some o ≡ false → is_none o ≡ true
+  uncaused None free = refl
+  uncaused (Some cause) free = absurd (false≢true (sym free))
+
+  pub forged_ahead : (peer : K) (certificate : Certificate C D) (p : Participant)
+      → let number = round_in (subject_certified certificate) in
+      peer_in x peer ≡ Some p → p.0 < length x.meaning.participants
+      → is_some (cause_at old.blocked p.0) ≡ false
+      → is_ahead old.epoch old.window number ≡ true
+      → certifies_itself (meaning old.scheme) certificate ≡ false
+      → new.window ≡ old.window → new.rounds ≡ old.rounds
+      → ((i : ℕ) → i < length x.meaning.participants → cause_at new.blocked i
+      ≡ option_or (cause_at old.blocked i) (cond (p.0 == i) (Some ForCertificate) None))
+      → NodeRepresents x past old → NodeRepresents x (forgery_came peer certificate ∷ past) new
+  forged_ahead peer certificate p sender in_range free ahead bad window rounds blocked h =
+      told_none x past (forgery_came peer certificate) old new (λ view. refl)
+      window (at_most (ap (λ w. w.finalized) window))
+      (λ i ranged. blocked i ranged ∙ ap (option_or (cause_at old.blocked i))
+      (peer_blocked peer p (Some ForCertificate) sender i))
+      (λ view within. ap (λ r. slot_at r view) rounds)
+      (record {
+        free =
+            ap (is_unblocked x past) sender ∙ ap is_none (sym (h.blocked_are p.0 in_range))
+            ∙ uncaused (cause_at old.blocked p.0) free;
+        ahead =
+            ap (λ w. is_ahead old.epoch w (round_in (subject_certified certificate)))
+            (sym h.window_is) ∙ ahead;
+        forged = bad;
+      })
       h
 
   pub own_told : (vote : Vote G D) (outcome : Outcome) (report : Option (Activity G D))

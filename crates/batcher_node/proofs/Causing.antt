@@ -3,7 +3,8 @@ use Rattle.batcher_node.proofs.Words.{◌≡◌, ◌<◌, ◌==◌, ◌||◌, �
 use Rattle.batcher_node.proofs.Words.{length, is_some, arith, IfSome, list_any, AllPass, option_map, option_or, false≢true, eqb-true, All-head, All-tail}
 use Rattle.batcher_node.proofs.Words.{Participant, Vote, Certificate, Batch, Admission, BlockReason, is_some_and, sent_bad_vote, gave_cause, ready_kind}
 use Rattle.batcher_node.proofs.Words.{subject_of, round_in, Answered, Outside, Dropped, Unknown, Recorded, Forged, Known, Cause, ForVote, ForCertificate}
-use Rattle.batcher_node.proofs.Words.{ForSignature, NodeEvent, started, vote_came, certificate_came, vote_cast, view_entered, view_finalized, constructed}
+use Rattle.batcher_node.proofs.Words.{forgery_came, inl, inr, ForSignature, NodeEvent, started, vote_came, certificate_came, vote_cast, view_entered}
+use Rattle.batcher_node.proofs.Words.{view_finalized, constructed}
 use Rattle.batcher_node.proofs.Words.{proposal_forwarded, NodeHistory, view_history, peer_in, is_peer, cause_by, cause_in, NodeView, NodeConfig, cause_at}
 use Rattle.batcher_node.proofs.Words.{NodeRepresents, HasHistory, ForEachNodeHistory, ForSomeNodeHistory, config_of, IsForCause, AreForCause, GaveCauseFor}
 use Rattle.batcher_node.proofs.Words.{HadGivenCause}
@@ -87,7 +88,23 @@ module _ {D K G C : Type 0} (x : NodeConfig D K G C) where
         certificate = certificate;
         forged = good;
         before = past;
-        came = refl;
+        came = inl refl;
+      })
+
+  by_forgery : (past : NodeHistory D K G C) (peer : K) (certificate : Certificate C D)
+      → IsForCause x past (forgery_came peer certificate)
+      → (i : ℕ) (c : Cause) → cond (is_peer x peer i) (Some ForCertificate) None ≡ Some c
+      → GaveCauseFor x c (forgery_came peer certificate ∷ past) i
+  by_forgery past peer certificate good i c is =
+      let given = is_given (is_peer x peer i) ForCertificate c is in
+      subst (λ c. GaveCauseFor x c (forgery_came peer certificate ∷ past) i) given.1
+      (record {
+        key = peer;
+        is_sender = given.0;
+        certificate = certificate;
+        forged = good;
+        before = past;
+        came = inr refl;
       })
 
   by_batch : (past : NodeHistory D K G C) (view : ℕ) (batch : Batch (Certificate C D))
@@ -127,6 +144,13 @@ module _ {D K G C : Type 0} (x : NodeConfig D K G C) where
         earlier = certificate_came peer certificate (Answered Forged) ∷ past;
         is_part = refl;
         gave = by_certificate past peer certificate good i c is;
+      }
+  by_event past (forgery_came peer certificate) good i c is =
+      record {
+        later = [];
+        earlier = forgery_came peer certificate ∷ past;
+        is_part = refl;
+        gave = by_forgery past peer certificate good i c is;
       }
   by_event past (constructed view (Some batch)) good i c is =
       record {

@@ -4,7 +4,8 @@ use Rattle.batcher_node.proofs.Words.{false≢true, eqb-true, Kind, is_due, Call
 use Rattle.batcher_node.proofs.Words.{AllPass, is_some_and, ready_kind, sent_bad_vote, NamesForOwnVotes, Participant, Config, is_empty, subject_of, round_in}
 use Rattle.batcher_node.proofs.Words.{Event, History, IsPossible, AtEachVote, AtEachEvent, IsBlockedForCause, gave_cause, ends_in_constructions, IsPromised}
 use Rattle.batcher_node.proofs.Words.{Receipt, Answered, Outside, Dropped, Unknown, Verdict, Recorded, Forged, Known, NodeEvent, started, vote_came}
-use Rattle.batcher_node.proofs.Words.{certificate_came, vote_cast, view_entered, view_finalized, constructed, proposal_forwarded, NodeHistory, at_view}
+use Rattle.batcher_node.proofs.Words.{forgery_came, certificate_came, vote_cast, view_entered, view_finalized, constructed, proposal_forwarded}
+use Rattle.batcher_node.proofs.Words.{NodeHistory, at_view}
 use Rattle.batcher_node.proofs.Words.{view_history, view_history_by, peer_in, cause_in, NodeConfig, config_of, is_to_be_tried, receipt_from, is_within, IsNamed}
 use Rattle.batcher_node.proofs.Words.{AreNamed, IsForCause, AreForCause, IsNodePromised}
 use Rattle.batcher_node.proofs.Rested.{rested, few_before}
@@ -79,6 +80,7 @@ module _ {D K G C : Type 0} (x : NodeConfig D K G C)
       λ block i sender. ap (λ t. gave_cause y t i.0) more ∙ each.0 block i sender
   for_cause past (certificate_came peer certificate (Answered Forged)) named possible =
       forged_is _ _ _ refl (forged_from past (peer_in x peer) _ _ named)
+  for_cause past (forgery_came peer certificate) named possible = named.forged
   for_cause past (started window) named possible = tt
   for_cause past (vote_came peer vote Outside) named possible = tt
   for_cause past (vote_came peer vote Dropped) named possible = tt
@@ -160,6 +162,7 @@ module _ {D K G C : Type 0} (x : NodeConfig D K G C)
   few_after past (certificate_came peer certificate Outside) named possible view before = before
   few_after past (certificate_came peer certificate Dropped) named possible view before = before
   few_after past (certificate_came peer certificate Unknown) named possible view before = before
+  few_after past (forgery_came peer certificate) named possible view before = before
 
   few_rows : (past : NodeHistory D K G C) → AreNamed x past
       → ((view : ℕ) → IsPossible (config_of x past view) (view_history view past)) → (view : ℕ)

@@ -5,7 +5,7 @@ use Rattle.batcher_node.proofs.Words.{Participant, Round, Kind, BlockReason, Mod
 use Rattle.batcher_node.proofs.Words.{IsPossible, gave_cause, own_votes_added, sent_bad_vote, IsPromised, SendersOfAddedGiveNoCause, Answered, Forged, Cause}
 use Rattle.batcher_node.proofs.Words.{ForVote, ForCertificate, ForSignature, numbered, NodeEvent, vote_came, certificate_came, constructed, NodeHistory}
 use Rattle.batcher_node.proofs.Words.{view_history, peer_in, is_peer, cause_by, cause_in, NodeConfig, AreNamed, mode_of, config_of, IsForCause, AreForCause}
-use Rattle.batcher_node.proofs.Words.{votes_to_send, HearsOnly}
+use Rattle.batcher_node.proofs.Words.{forgery_came, votes_to_send, HearsOnly}
 use Rattle.batcher_node.proofs.SendingViews.{none_of, own_attest, sent_none_bad, round_of, sends_added}
 
 -- the participant of which something is so
@@ -81,6 +81,9 @@ module _ {D K G C : Type 0} (x y : NodeConfig D K G C) (same : y.meaning ≡ x.m
       ∙ ap (λ k. gave_cause (config_of y now view) (view_history view now) k) j.1.1
       ∙ gave_none now hears view))
   none_by past (certificate_came peer certificate (Answered Forged)) hears forged =
+      none_unless ForCertificate (is_peer y peer i)
+      (λ is. true≢false (sym (All-head Hears _ past hears is) ∙ forged))
+  none_by past (forgery_came peer certificate) hears forged =
       none_unless ForCertificate (is_peer y peer i)
       (λ is. true≢false (sym (All-head Hears _ past hears is) ∙ forged))
   none_by past (constructed view (Some batch)) hears for_cause =

@@ -3,7 +3,7 @@ use Rattle.batcher_node.proofs.Words.{◌≡◌, ◌==◌, ◌<◌, ℕ, Bool, t
 use Rattle.batcher_node.proofs.Words.{or_right, All-cons, All-head, All-tail, All-nil, Vote, Activity, Admission, Outcome, Ordering, Meaning, signer_of}
 use Rattle.batcher_node.proofs.Words.{IsAmong, Receipt, NodeEvent, vote_came, certificate_came, vote_cast, NodeHistory, ToSend, NodeView, NodeConfig, SameNode}
 use Rattle.batcher_node.proofs.Words.{node_config, cause_at, NodeRepresents, NodeMeets, SimulatesCast, votes_to_send, HearsOnly, SendsWhatIsToSend}
-use Rattle.batcher_node.proofs.Words.{HearsWhatIsToSend}
+use Rattle.batcher_node.proofs.Words.{forgery_came, HearsWhatIsToSend}
 use Rattle.batcher_node.specs.declared.answers.Cast.TheVariants.{Known}
 
 module _ {D K G C : Type 0} (y : NodeConfig D K G C) (i : ℕ) where
@@ -16,6 +16,7 @@ module _ {D K G C : Type 0} (y : NodeConfig D K G C) (i : ℕ) where
   hears_by_more more votes (vote_came peer vote receipt) hears =
       λ is. among_more vote more votes (hears is)
   hears_by_more more votes (certificate_came peer certificate receipt) hears = hears
+  hears_by_more more votes (forgery_came peer certificate) hears = hears
   hears_by_more more votes (vote_cast vote outcome report) hears = hears
   hears_by_more more votes event hears = tt
 

@@ -23,7 +23,7 @@ pub use Rattle.std.specs.Option.{option_map, option_or, unwrap_or}
 pub use Rattle.std.specs.Ordering.{nat_cmp, is_eq, is_gt}
 pub use Rattle.std.specs.Prelude.{◌≡◌, ◌==◌, ◌≤◌, ℕ, Bool, true, false, cond, ◌&&◌, [], ◌∷◌, ◌++◌, Option, Some, ◌≢◌, ◌<◌, not, List, None, Ok, is_some, length}
 pub use Rattle.std.specs.Prelude.{MatchOption, IfSome, zero, suc, set, Result, Err, OnErr, IfOk, IfErr, IsErrAnd, is_err, ◌||◌, ◌+◌, nat_lt, nat_le, filter}
-pub use Rattle.std.specs.Prelude.{sum_by, IfNone, ◌⊎◌, ◌-◌, ◌/◌, find, option_and_then, All, take}
+pub use Rattle.std.specs.Prelude.{sum_by, IfNone, ◌⊎◌, ◌-◌, ◌/◌, find, option_and_then, All, take, is_none}
 pub use Rattle.std.specs.declared.cmp.Ordering.{Ordering}
 pub use Rattle.std.specs.declared.cmp.Ordering.TheVariants.{Less, Equal, Greater}
 pub use Rattle.std.specs.declared.cmp.Reverse.{Reverse}
@@ -82,17 +82,17 @@ pub use Rattle.batcher.specs.votes.Outcome.TheVariants.{Added, Duplicate, Confli
 pub use Rattle.batcher_node.specs.Due.{times, ListsChanged, times_due}
 pub use Rattle.batcher_node.specs.Events.{NodeEvent, NodeHistory, view_history, view_history_by, vote_cast, vote_came, certificate_came, view_entered}
 pub use Rattle.batcher_node.specs.Events.{view_finalized, constructed, proposal_forwarded, at_view, peer_in, is_peer, cause_by, invalid_in, started, cause_in}
-pub use Rattle.batcher_node.specs.Events.{window_in, window_after}
+pub use Rattle.batcher_node.specs.Events.{forgery_came, window_in, window_after}
 pub use Rattle.batcher_node.specs.NodePromises.{IsForCause, AreForCause, GaveCauseFor, HadGivenCause, IsNodePromised}
 pub use Rattle.batcher_node.specs.Nodes.{NodeConfig, NodeView, node_config, cause_at, slot_at, fresh_round, MakesCall, MakesCallThere, NeedsThere, IsNext}
 pub use Rattle.batcher_node.specs.Nodes.{IsTended, HasChanged, Refuses, IsLedByAnother, due_after, MakesCallFresh, ViewGoesOn, SameNode}
 pub use Rattle.batcher_node.specs.Represents.{AreNamed, IsNamed, NodeRepresents, receipt, receipt_from, is_within, config_of, is_to_be_tried, ViewRepresents}
 pub use Rattle.batcher_node.specs.Represents.{NodeMeets, SimulatesCast, SimulatesForward, MayNeedIn, NextMayNeed, cast_by, HasHistory, ForEachNodeHistory}
-pub use Rattle.batcher_node.specs.Represents.{ForSomeNodeHistory, IsNode, mode_of}
+pub use Rattle.batcher_node.specs.Represents.{ForSomeNodeHistory, IsNode, is_unblocked, mode_of}
 pub use Rattle.batcher_node.specs.Sending.{ToSendAgree, to_send_by, view_of, votes_to_send, HearsOnly, HoldsCertified, SendsWhatIsToSend, HearsWhatIsToSend}
 pub use Rattle.batcher_node.specs.SendingExamples.{of_four, sent, heard, SendingExamples}
 pub use Rattle.batcher_node.specs.Verdicts.{LooksAtThere, MayBeQuorumThere}
-pub use Rattle.batcher_node.specs.Windows.{contains, numbered, is_of, entered, finalized, width, mode_now}
+pub use Rattle.batcher_node.specs.Windows.{contains, numbered, is_ahead, is_of, entered, finalized, width, mode_now}
 pub use Rattle.batcher_node.specs.declared.answers.Cast.{Cast}
 pub use Rattle.batcher_node.specs.declared.answers.Cast.TheVariants.{ToSend}
 pub use Rattle.batcher_node.specs.declared.answers.Cause.{Cause}

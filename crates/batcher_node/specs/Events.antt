@@ -42,6 +42,8 @@ pub data NodeEvent (D K G C : Type 0) : Type 0 where
   -- a peer sent a vote, or a certificate
   vote_came : K → Vote G D → Receipt (Admission G D) → NodeEvent D K G C
   certificate_came : K → Certificate C D → Receipt Verdict → NodeEvent D K G C
+  -- it sent a certificate from beyond the window that doesn't certify what it names
+  forgery_came : K → Certificate C D → NodeEvent D K G C
   -- the node cast a vote, where its view was in the window
   vote_cast : Vote G D → Outcome → Option (Activity G D) → NodeEvent D K G C
   -- it entered a view with its leader, and a view was finalized
@@ -114,6 +116,7 @@ module _ {D K G C : Type 0} (x : NodeConfig D K G C) where
       cond (is_peer peer i) (option_map ForVote admission.block) None
   cause_by (certificate_came peer certificate (Answered Forged)) i =
       cond (is_peer peer i) (Some ForCertificate) None
+  cause_by (forgery_came peer certificate) i = cond (is_peer peer i) (Some ForCertificate) None
   cause_by (constructed view given) i =
       cond (list_any (λ p. p.0 == i) (invalid_in given)) (Some ForSignature) None
   cause_by event i = None

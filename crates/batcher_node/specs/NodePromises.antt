@@ -1,5 +1,5 @@
 -- What is promised of a node after any history of its calls.
-use Rattle.std.specs.Prelude.{◌≡◌, ◌≤◌, ⊤, ℕ, true, false, List, [], ◌∷◌, ◌++◌, length, Some}
+use Rattle.std.specs.Prelude.{◌≡◌, ◌≤◌, ◌⊎◌, ⊤, ℕ, true, false, List, [], ◌∷◌, ◌++◌, length, Some}
 use Rattle.std.specs.Prelude.{is_some, IfSome}
 use Rattle.std.specs.List.{AllPass}
 use Rattle.batcher.specs.Lists.{is_some_and}
@@ -21,7 +21,7 @@ use Rattle.batcher_node.specs.declared.answers.Cause.TheVariants.{Vote as ForVot
 use Rattle.batcher_node.specs.declared.answers.Cause.TheVariants.{Certificate as ForCertificate}
 use Rattle.batcher_node.specs.declared.answers.Cause.TheVariants.{Signature as ForSignature}
 use Rattle.batcher_node.specs.Events.{NodeEvent, vote_came, certificate_came, constructed}
-use Rattle.batcher_node.specs.Events.{NodeHistory, view_history, is_peer}
+use Rattle.batcher_node.specs.Events.{NodeHistory, forgery_came, view_history, is_peer}
 use Rattle.batcher_node.specs.Nodes.{NodeView, NodeConfig, IsAtRest, cause_at}
 use Rattle.batcher_node.specs.Represents.{NodeRepresents, config_of, is_to_be_tried}
 use Rattle.batcher_node.specs.Sending.{ToSendAgree}
@@ -38,6 +38,8 @@ module _ {D K G C : Type 0} (x : NodeConfig D K G C) where
       → sender_in (config_of x (event ∷ past) view) peer ≡ Some i
       → gave_cause (config_of x (event ∷ past) view) (view_history view (event ∷ past)) i.0 ≡ true
   IsForCause past (certificate_came peer certificate (Answered Forged)) =
+      certifies_itself x.meaning certificate ≡ false
+  IsForCause past (forgery_came peer certificate) =
       certifies_itself x.meaning certificate ≡ false
   IsForCause past (constructed view (Some batch)) =
       AllPass (λ i. is_some_and (ready_kind (config_of x past view) (view_history view past))
@@ -77,14 +79,17 @@ module _ {D K G C : Type 0} (x : NodeConfig D K G C) where
     pub view : ℕ
     pub gave : gave_cause (config_of x past view) (view_history view past) i ≡ true
 
-  -- The last event is a certificate that it sent, and that doesn't certify what it names.
+  -- The last event is a certificate that it sent, of a view in the window or of one beyond it, and
+  -- that doesn't certify what it names.
   pub record SentForged (past : NodeHistory D K G C) (i : ℕ) : Type 0 where
     pub key : K
     pub is_sender : is_peer x key i ≡ true
     pub certificate : Certificate C D
     pub forged : certifies_itself x.meaning certificate ≡ false
     pub before : NodeHistory D K G C
-    pub came : past ≡ certificate_came key certificate (Answered Forged) ∷ before
+    pub came :
+        (past ≡ certificate_came key certificate (Answered Forged) ∷ before)
+        ⊎ (past ≡ forgery_came key certificate ∷ before)
 
   -- In a view it sent a vote in its own name that doesn't attest.
   pub record SentBadVote (past : NodeHistory D K G C) (i : ℕ) : Type 0 where

@@ -24,6 +24,8 @@ use Rattle.batcher.specs.Answers.{certificate_answer}
 use Rattle.batcher.specs.calls.Call.{Call}
 use Rattle.batcher.specs.calls.Call.TheVariants.{Construct as ConstructCall}
 use Rattle.batcher.specs.Represents.{Represents}
+use Rattle.batcher_node.specs.declared.answers.Ahead.{Ahead}
+use Rattle.batcher_node.specs.declared.answers.Ahead.TheVariants.{Certified, Forged as ForgedAhead}
 use Rattle.batcher_node.specs.declared.answers.Receipt.{Receipt}
 use Rattle.batcher_node.specs.declared.answers.Receipt.TheVariants.{Answered, Outside, Dropped}
 use Rattle.batcher_node.specs.declared.answers.Receipt.TheVariants.{Unknown}
@@ -33,8 +35,9 @@ use Rattle.batcher_node.specs.declared.answers.Cast.{Cast}
 use Rattle.batcher_node.specs.declared.answers.Cast.TheVariants.{ToSend, Known as KnownVote}
 use Rattle.batcher_node.specs.declared.answers.Cast.TheVariants.{Outside as OutsideVote}
 use Rattle.batcher_node.specs.declared.slot.Slot.{Slot}
-use Rattle.batcher_node.specs.Windows.{is_of, mode_now, numbered}
+use Rattle.batcher_node.specs.Windows.{is_ahead, is_of, mode_now, numbered}
 use Rattle.batcher_node.specs.Events.{NodeEvent, started, vote_came, certificate_came, vote_cast}
+use Rattle.batcher_node.specs.Events.{forgery_came}
 use Rattle.batcher_node.specs.Events.{view_entered, view_finalized, constructed, proposal_forwarded}
 use Rattle.batcher_node.specs.Events.{NodeHistory, view_history, peer_in, cause_in, window_in}
 use Rattle.batcher_node.specs.Nodes.{NodeView, NodeConfig, cause_at, due_after, slot_at, IsNext}
@@ -89,6 +92,19 @@ module _ {D K G C : Type 0} (x : NodeConfig D K G C) where
       (Recorded (certificate_answer (config_of past view) (view_history view past) certificate))
       Forged)
 
+  -- whether a peer takes part and isn't blocked
+  abbrev pub is_unblocked : NodeHistory D K G C → Option Participant → Bool
+  is_unblocked past None = false
+  is_unblocked past (Some i) = is_none (cause_in x past i.0)
+
+  -- A certificate is a forgery from beyond the window, where its sender is free.
+  pub record IsForgery (past : NodeHistory D K G C) (peer : K) (certificate : Certificate C D)
+      : Type 0 where
+    pub free : is_unblocked past (peer_in x peer) ≡ true
+    pub ahead :
+        is_ahead x.epoch (window_in past) (round_in (subject_certified certificate)) ≡ true
+    pub forged : certifies_itself x.meaning certificate ≡ false
+
   -- What an event is answered, by those before it: as the history of its view names.
   abbrev pub IsNamed : NodeHistory D K G C → NodeEvent D K G C → Type 0
   IsNamed past (vote_came peer vote answer) =
@@ -98,6 +114,7 @@ module _ {D K G C : Type 0} (x : NodeConfig D K G C) where
   IsNamed past (certificate_came peer certificate answer) =
       let number = round_in (subject_certified certificate) in
       answer ≡ receipt past peer number (verdict past certificate)
+  IsNamed past (forgery_came peer certificate) = IsForgery past peer certificate
   IsNamed past (vote_cast vote outcome report) =
       let number = round_in (subject_of vote) in
       (is_within past number ≡ true)
@@ -195,6 +212,19 @@ module _ {D K G C : Type 0} (x : NodeConfig D K G C) where
   abbrev pub IsHeard : {S : Type 0} → NodeView S G D → K → Round → Type 0
   IsHeard node peer number =
       (is_heard node (peer_in x peer) ≡ true) × (is_of x.epoch node.window number ≡ true)
+
+  -- What a certificate is answered as one from beyond the window: whether it certifies what it
+  -- names. One from elsewhere isn't looked at, nor one whose sender takes no part or is blocked.
+  abbrev pub ahead_answer_of : {S : Type 0} → NodeView S G D → Option Participant
+      → Certificate C D → Receipt Ahead
+  ahead_answer_of node None certificate = Unknown
+  ahead_answer_of node (Some i) certificate =
+      cond (is_some (cause_at node.blocked i.0)) Dropped
+      (cond (is_ahead x.epoch node.window (round_in (subject_certified certificate)))
+      (Answered (cond (certifies_itself x.meaning certificate) Certified ForgedAhead)) Outside)
+
+  abbrev pub ahead_answer : {S : Type 0} → NodeView S G D → K → Certificate C D → Receipt Ahead
+  ahead_answer node peer certificate = ahead_answer_of node (peer_in x peer) certificate
 
   -- A call in a view may need memory: for a round, where the view has none, or as the history of
   -- the view says, whichever history the node represents.

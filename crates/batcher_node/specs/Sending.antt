@@ -10,7 +10,7 @@ use Rattle.batcher.specs.Reports.{IsAmong}
 use Rattle.batcher_node.specs.declared.answers.Receipt.TheVariants.{Answered}
 use Rattle.batcher_node.specs.declared.answers.Verdict.TheVariants.{Recorded}
 use Rattle.batcher_node.specs.Events.{NodeEvent, vote_came, certificate_came, vote_cast}
-use Rattle.batcher_node.specs.Events.{constructed, NodeHistory, is_peer}
+use Rattle.batcher_node.specs.Events.{constructed, forgery_came, NodeHistory, is_peer}
 use Rattle.batcher_node.specs.Nodes.{NodeView, NodeConfig}
 use Rattle.batcher_node.specs.Represents.{NodeRepresents}
 
@@ -44,6 +44,8 @@ module _ {D K G C : Type 0} (x : NodeConfig D K G C) where
   abbrev pub HearsOnly : List (Vote G D) → ℕ → NodeEvent D K G C → Type 0
   HearsOnly votes i (vote_came peer vote receipt) = is_peer x peer i ≡ true → IsAmong vote votes
   HearsOnly votes i (certificate_came peer certificate receipt) =
+      is_peer x peer i ≡ true → certifies_itself x.meaning certificate ≡ true
+  HearsOnly votes i (forgery_came peer certificate) =
       is_peer x peer i ≡ true → certifies_itself x.meaning certificate ≡ true
   HearsOnly votes i (vote_cast vote outcome report) = (signer_of vote == i) ≡ false
   HearsOnly votes i event = ⊤

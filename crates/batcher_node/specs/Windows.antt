@@ -14,6 +14,14 @@ contains window view = nat_le window.finalized view && nat_le view (window.curre
 abbrev pub is_of : Epoch → Window → Round → Bool
 is_of epoch window number = (number.epoch.0 == epoch.0) && contains window number.view.0
 
+-- whether the view of this number is beyond it
+abbrev pub is_beyond : Window → ℕ → Bool
+is_beyond window view = nat_lt (window.current + window.ahead) view
+
+-- whether a round number is of the epoch, and of a view beyond the window
+abbrev pub is_ahead : Epoch → Window → Round → Bool
+is_ahead epoch window number = (number.epoch.0 == epoch.0) && is_beyond window number.view.0
+
 -- how many views are in it
 abbrev pub width : Window → ℕ
 width window = window.current + window.ahead + 1 - window.finalized

@@ -3,7 +3,7 @@
 ghost use Rattle.std.specs.Prelude.{◌≡◌, Some};
 ghost use Rattle.batcher_node.specs.declared.answers.EnterFault.TheVariants.{OutOfMemory as OutOfMemoryFault};
 ghost use Rattle.batcher_node.specs.declared.answers.EnterFault.TheVariants.{LeaderChanged as LeaderChangedFault};
-ghost use Rattle.batcher_node.specs.Texts.{cause_text, verdict_text};
+ghost use Rattle.batcher_node.specs.Texts.{ahead_text, cause_text, verdict_text};
 
 use batcher::messages::Activity;
 use batcher::round::BlockReason;
@@ -58,6 +58,26 @@ impl fmt::Display for Verdict {
             Verdict::Recorded(false) => "recorded",
             Verdict::Forged => "forged",
             Verdict::Known => "known",
+        })
+    }
+}
+
+/// What became of a peer's certificate from beyond the window, which isn't recorded.
+#[derive(Clone, Copy, Debug, PartialEq, Eq)]
+pub enum Ahead {
+    /// It certifies what it names.
+    Certified,
+    /// It doesn't, and the peer is blocked.
+    Forged,
+}
+
+impl fmt::Display for Ahead {
+    ghost output = { λ answer. Some (ahead_text answer) };
+
+    fn fmt<W: fmt::Write>(&self, f: &mut fmt::Formatter<W>) -> fmt::Result {
+        f.write_str(match self {
+            Ahead::Certified => "certified",
+            Ahead::Forged => "forged",
         })
     }
 }

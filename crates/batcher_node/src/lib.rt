@@ -12,7 +12,7 @@ mod theorems;
 mod views;
 mod window;
 
-pub use answers::{Cast, Cause, EnterFault, Receipt, Verdict};
+pub use answers::{Ahead, Cast, Cause, EnterFault, Receipt, Verdict};
 pub use node::{Construction, Node, NodeConfigs};
 pub use theorems::{
     nodes_keep_their_promises, senders_of_votes_to_send_are_never_blocked, worked_examples,

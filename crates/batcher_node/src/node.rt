@@ -2,7 +2,7 @@
 
 ghost use Rattle.std.specs.Prelude.{◌≡◌, ◌≤◌, ◌<◌, ◌∷◌, [], true, false, cond, ◌==◌, ℕ, length};
 ghost use Rattle.std.specs.Prelude.{map, IfOk, IfErr, OnOk, OnErr, IfSome, IfNone, Some, None, Ok};
-ghost use Rattle.std.specs.Prelude.{Err, is_some};
+ghost use Rattle.std.specs.Prelude.{Err, is_some, ◌≢◌};
 ghost use Rattle.std.specs.List.{list_any, range_with_len};
 ghost use Rattle.std.specs.Option.{option_map, option_copied, option_or};
 ghost use Rattle.std.specs.List.Sorted.{IsStrictlySortedBy};
@@ -21,19 +21,20 @@ ghost use Rattle.batcher_node.specs.declared.answers.EnterFault.TheVariants.{Out
 ghost use Rattle.batcher_node.specs.Windows.{is_of, width, contains, numbered};
 ghost use Rattle.batcher_node.specs.Events.{peer_in, invalid_in, started, vote_came};
 ghost use Rattle.batcher_node.specs.Events.{certificate_came, view_entered, view_finalized};
-ghost use Rattle.batcher_node.specs.Events.{constructed, view_history};
+ghost use Rattle.batcher_node.specs.Events.{constructed, forgery_came, view_history};
 ghost use Rattle.batcher_node.specs.Nodes.{SameNode, IsAtRest, HasChanged, IsNext, Draws};
 ghost use Rattle.batcher_node.specs.Nodes.{IsLedByAnother, cause_at, slot_at};
 ghost use Rattle.batcher_node.specs.Represents.{cast_by, NodeMeets, SimulatesCast};
 ghost use Rattle.batcher_node.specs.Represents.{SimulatesForward, NodeRepresents};
 ghost use Rattle.batcher_node.specs.Represents.{ForEachNodeHistory, IsHeard, MayNeedIn};
 ghost use Rattle.batcher_node.specs.Represents.{NextMayNeed, config_of, ForSomeNodeHistory};
+ghost use Rattle.batcher_node.specs.Represents.{ahead_answer, is_heard};
 ghost use Rattle.batcher_node.specs.Verdicts.{LooksAtThere, MayBeQuorumThere};
 ghost use Rattle.batcher.specs.VerifierSteps.{certificate_for};
 ghost use Rattle.batcher.specs.Verdicts.{BatchIsAssembled};
 ghost use Rattle.batcher_node.specs.NodePromises.{HadGivenCause, IsComplete, KeepsPromises};
 
-use crate::answers::{Cast, Cause, EnterFault, Receipt, Verdict};
+use crate::answers::{Ahead, Cast, Cause, EnterFault, Receipt, Verdict};
 use crate::due::Due;
 use crate::rounds::Rounds;
 use crate::step::{self, Heard, Led, Verified};
@@ -241,6 +242,40 @@ impl<S: Scheme<D>, D: Digest> Node<S, D> {
         Ok(Receipt::Answered(Verdict::Recorded(changed)))
     }
 
+    /// Takes in a certificate from beyond the window that a peer sent. It is verified, so that who
+    /// fell behind may go on by it, and not recorded. Another isn't looked at.
+    ///
+    /// Where it doesn't certify what it names, the peer is blocked from then on. It takes no
+    /// memory.
+    pub fn receive_ahead(
+        &mut self,
+        peer: S::PublicKey,
+        certificate: &Certificate<S::Certificate, D>,
+    ) -> Receipt<Ahead>
+        ensures answer { result ≡ ahead_answer (⟦<S as NodeConfigs<D>>⟧.of self.old) self.old peer
+            certificate.now }
+        ensures forged { result ≡ Receipt.Answered Ahead.Forged
+            → NodeMeets (⟦<S as NodeConfigs<D>>⟧.of self.old) self.old
+            (forgery_came peer certificate.now) self.new }
+        ensures stays { result ≢ Receipt.Answered Ahead.Forged → self.new ≡ self.old }
+        ensures rest { self.new ≡ record self.old { blocked = self.new.blocked } }
+    {
+        let Some(who) = self.sender(&peer) else {
+            return Receipt::Unknown;
+        };
+        if is_blocked(self.blocked.as_slice(), who) {
+            return Receipt::Dropped;
+        }
+        if !self.rounds.is_ahead(certificate.round()) {
+            return Receipt::Outside;
+        }
+        if self.rounds.verifies(certificate) {
+            return Receipt::Answered(Ahead::Certified);
+        }
+        block(&mut self.blocked, who, Cause::Certificate);
+        Receipt::Answered(Ahead::Forged)
+    }
+
     /// Takes in a vote of the node's own, which attests, and says whether it is to be sent. A
     /// refusal, also one for memory, leaves the node as it was.
     pub fn cast_vote(
@@ -366,6 +401,18 @@ impl<S: Scheme<D>, D: Digest> Node<S, D> {
         ensures { result ≡ certifies_itself (S.meaning self.now.scheme) certificate.now }
     {
         self.rounds.verifies(certificate)
+    }
+
+    /// Whether what the peer sends is looked at: it takes part and isn't blocked. A certificate of
+    /// another peer needn't be verified before it is handed in.
+    pub fn is_heard(&self, peer: &S::PublicKey) -> bool
+        ensures { result ≡ is_heard (⟦<S as NodeConfigs<D>>⟧.of self.now) self.now
+            (peer_in (⟦<S as NodeConfigs<D>>⟧.of self.now) peer.now) }
+    {
+        match self.sender(peer) {
+            Some(sender) => !is_blocked(self.blocked.as_slice(), sender),
+            None => false,
+        }
     }
 
     /// The lowest view that changed since it was found to rest, in which the next construction is

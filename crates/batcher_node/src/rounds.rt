@@ -19,7 +19,7 @@ ghost use Rattle.batcher.specs.Represents.{Represents};
 ghost use Rattle.batcher.specs.RoundContracts.{ForEachHistory};
 ghost use Rattle.batcher.specs.Selection.{is_certified};
 ghost use Rattle.batcher.specs.Verifiers.{certifies_itself, IfGiven};
-ghost use Rattle.batcher_node.specs.Windows.{is_of, entered, finalized, numbered};
+ghost use Rattle.batcher_node.specs.Windows.{is_ahead, is_of, entered, finalized, numbered};
 ghost use Rattle.batcher_node.specs.Nodes.{fresh_round, IsNext, IsTended, MakesCall};
 ghost use Rattle.batcher_node.specs.Nodes.{MakesCallThere, NeedsThere, Refuses, Draws, HasChanged};
 ghost use Rattle.batcher_node.specs.Nodes.{IsAtRest, slot_at};
@@ -66,6 +66,13 @@ impl<S: Scheme<D>, D: Digest> Rounds<S, D> {
         ensures { result ≡ is_of self.now.epoch self.now.window number }
     {
         number.epoch == self.epoch && self.window.contains(number.view.0)
+    }
+
+    /// Whether a message of the number is of the epoch, and of a view beyond the window.
+    pub(crate) fn is_ahead(&self, number: positions::Round) -> bool
+        ensures { result ≡ is_ahead self.now.epoch self.now.window number }
+    {
+        number.epoch == self.epoch && self.window.is_beyond(number.view.0)
     }
 
     /// Whether the certificate certifies what it names.

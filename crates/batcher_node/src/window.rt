@@ -16,13 +16,21 @@ pub struct Window {
 }
 
 impl Window {
-    ghost use Rattle.batcher_node.specs.Windows.{contains, entered, finalized, mode_now};
+    ghost use Rattle.batcher_node.specs.Windows.{contains, entered, finalized, is_beyond, mode_now};
 
     /// Whether the view of this number is in the window.
     pub fn contains(&self, view: u64) -> bool
         ensures { result ≡ contains self.now view }
     {
         self.finalized <= view && (view <= self.current || view - self.current <= self.ahead)
+    }
+
+    /// Whether the view of this number is beyond the window. A good certificate of it shows that
+    /// the node fell behind.
+    pub fn is_beyond(&self, view: u64) -> bool
+        ensures { result ≡ is_beyond self.now view }
+    {
+        self.current < view && self.ahead < view - self.current
     }
 
     // How a round of the view keeps its votes that is made now. It is skipped where its view was
