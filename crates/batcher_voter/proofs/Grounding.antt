@@ -327,6 +327,18 @@ module _ {D : Type 0} (knowledge : KnowledgeView D) (past : Conduct D)
         (subst (λ e. KnowsProposal past (numbered e p.parent.0)) of_epoch known)),
   )
 
+-- What is known to be notarized is of a view on which a proposal may be.
+pub notarized_is_parent :
+    {D : Type 0} (knowledge : KnowledgeView D) (past : Conduct D) → HasLearned knowledge past
+    → (p : Proposal D) → p.round.epoch ≡ knowledge.epoch → knowledge.floor ≤ p.round.view.0
+    → Knows past (Notarize p) → IsParent knowledge p.round.view.0
+notarized_is_parent {D} knowledge past has p of_epoch from known =
+    inr (inl (
+    ap (λ (it : Learned D). is_some it.notarized) (has p.round.view.0 from)
+    ∙ ap (λ r. is_some (learned_of past r).notarized) (sym (ap (λ e. numbered e p.round.view.0) of_epoch))
+    ∙ known_notarized past p known
+    ))
+
 -- of two numbers of which the one isn't above
 pub not_above : (a b : ℕ) → (a < b → ⊥) → b ≤ a
 not_above a b not =

@@ -16,3 +16,4 @@ mod Finalizing
 mod Beginning
 mod Leaving
 pub mod Reopening
+pub mod Unstarted

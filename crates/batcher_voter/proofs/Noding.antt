@@ -46,12 +46,12 @@ module _ {S D K G C L : Type 0} (x : NodeConfig D K G C) (old between new : Vote
 pub why_not_shown :
     {S D K G C L : Type 0} (x : NodeConfig D K G C) (same : D → D → Bool)
     (old new : VoterView S G D L)
-    (vote : Vote G D) (fault : CastFault G D) → WhyNotShown x old.node vote fault
-    → WhyNotCast x same old vote fault new
-why_not_shown x same old new vote NoMemory why = tt
-why_not_shown x same old new vote (Excluded fault) why = why
-why_not_shown x same old new vote NoRoom why = absurd why
-why_not_shown x same old new vote NotOwn why = absurd why
-why_not_shown x same old new vote (Signed known) why = absurd why
-why_not_shown x same old new vote (RefusedBy rule) why = absurd why
-why_not_shown x same old new vote NotOpen why = absurd why
+    (vote : Vote G D) (fault : CastFault G D) → new.journal.is_open ≡ true
+    → WhyNotShown x old.node vote fault → WhyNotCast x same old vote fault new
+why_not_shown x same old new vote NoMemory opened why = (opened, inr why)
+why_not_shown x same old new vote (Excluded fault) opened why = why
+why_not_shown x same old new vote NoRoom opened why = absurd why
+why_not_shown x same old new vote NotOwn opened why = absurd why
+why_not_shown x same old new vote (Signed known) opened why = absurd why
+why_not_shown x same old new vote (RefusedBy rule) opened why = absurd why
+why_not_shown x same old new vote NotOpen opened why = absurd why

@@ -58,6 +58,18 @@ module _ {S D K G C L : Type 0} (x : NodeConfig D K G C) (same : D → D → Boo
         ),
       )
 
+  permits_back :
+      (s : Subject D) → ForEachLife x mid (Permits x same mid s Sign)
+      → ForEachLife x old (Permits x same old s Sign)
+  permits_back s permits past earlier is =
+      let it = from_mid (Permits x same mid s Sign) permits past earlier is in (
+        it.0,
+        (
+          it.1.0,
+          subst (λ (k : KnowledgeView D). RestsOnLearned (conduct_of past) k.floor s) knowledge it.1.1,
+        ),
+      )
+
   pub why_still :
       (vote : Vote G D) (fault : CastFault G D) (new : VoterView S G D L)
       → WhyNotCast x same mid vote fault new → WhyNotCast x same old vote fault new
@@ -73,7 +85,16 @@ module _ {S D K G C L : Type 0} (x : NodeConfig D K G C) (same : D → D → Boo
   why_still vote NoRoom new why = why
   why_still vote (Excluded fault) new why =
       subst (λ (n : NodeView S G D). WhyNotShown x n vote (Excluded fault)) node why
-  why_still vote NoMemory new why = why
+  why_still vote NoMemory new (opened, why) = (
+    opened,
+    ⊎_elim
+        (λ it. inl (record {
+          permits = permits_back (subject_of vote) it.permits;
+          contents = it.contents ∙ contents;
+        }))
+        (λ it. inr (subst (λ (n : NodeView S G D). WhyNotShown x n vote NoMemory) node it))
+        why,
+  )
 
   pub gains_still :
       (vote : Vote G D) (new : VoterView S G D L) → MayGain vote mid.journal new.journal

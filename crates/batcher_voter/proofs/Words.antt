@@ -42,7 +42,7 @@ pub use Rattle.batcher.specs.verifier.Batch.{Batch}
 pub use Rattle.batcher_agreement.proofs.Voting.{not_both}
 pub use Rattle.batcher_agreement.specs.Lives.{VoterHistory, called, conduct_of, verified, VoterEvent, acts_of, learned_by, written}
 pub use Rattle.batcher_agreement.specs.Policy.{Conduct, IsGrounded, Knows, KnowsProposal, learned, voted, KeepsPolicy, HasVoted, IsCleared}
-pub use Rattle.batcher_bytes.specs.Format.{Format}
+pub use Rattle.batcher_bytes.specs.Format.{Format, whole}
 pub use Rattle.batcher_bytes.specs.Messages.{certificate_format, versioned, vote_format}
 pub use Rattle.batcher_journal.proofs.Lives.{contains_filter}
 pub use Rattle.batcher_journal.proofs.Rounds.{still_over}
@@ -50,13 +50,14 @@ pub use Rattle.batcher_journal.specs.Answers.{MayBeWrittenBehind, Answers}
 pub use Rattle.batcher_journal.specs.Causes.{IsOneText}
 pub use Rattle.batcher_journal.specs.Contradictions.{IsFree, LeavesFree}
 pub use Rattle.batcher_journal.specs.Floors.{certified_from, is_below, from_floor, is_over}
+pub use Rattle.batcher_journal.specs.Ready.{IsTooLongFor}
 pub use Rattle.batcher_journal.specs.Ready.{JournalView, HasContents, IsAsBefore, Keeps, raised, RaiseLeaves, WriteLeaves, with_more}
 pub use Rattle.batcher_journal.specs.Records.{Certified}
 pub use Rattle.batcher_journal.specs.Text.{Contents, OwnerFields, IsText}
 pub use Rattle.batcher_journal.specs.declared.journal.Answer.TheVariants.{Refused}
 pub use Rattle.batcher_node.proofs.Dropping.{is_kept, kept_from}
 pub use Rattle.batcher_node.specs.Events.{started, proposal_forwarded, NodeEvent, certificate_came, constructed, view_finalized, NodeHistory, view_history}
-pub use Rattle.batcher_node.specs.Events.{view_entered, vote_came}
+pub use Rattle.batcher_node.specs.Events.{forgery_came, view_entered, vote_came}
 pub use Rattle.batcher_node.specs.NodePromises.{IsNodePromised}
 pub use Rattle.batcher_node.specs.Nodes.{NodeConfig, slot_at, NodeView, SameNode, node_config, IsLedByAnother}
 pub use Rattle.batcher_node.specs.Represents.{MayNeedIn, NodeRepresents, SimulatesForward, NodeMeets, receipt, HasHistory, config_of}
@@ -89,3 +90,6 @@ pub use Rattle.batcher_voter.specs.declared.answers.Rule.{Rule}
 pub use Rattle.batcher_voter.specs.declared.answers.Rule.TheVariants.{Contradicts, Nullified, NotNotarized, ParentBeforeFinal, ParentNotEarlier, ParentUnknown}
 pub use Rattle.batcher_voter.specs.declared.answers.Rule.TheVariants.{ViewNotNullified}
 pub use Rattle.batcher_voter.specs.declared.knowledge.Learned.{Learned}
+pub use Rattle.batcher_voter.specs.declared.answers.StartFault.{StartFault}
+pub use Rattle.batcher_voter.specs.declared.answers.StartFault.TheVariants.{Forged as ForgedToStart, Malformed, NotFinal, OutOfMemory as NoMemoryToStart}
+pub use Rattle.batcher_voter.specs.Unstarted.{AreReadable, HasForged, HasNoFinalization, IsReadAs, IsNoCertificate, WhyNotLearned, WhyNotStarted, WhyUnread}

@@ -80,6 +80,14 @@ module _ {D : Type 0} where
   HaveNoParent knowledge parent view =
       (between : ℕ) → parent < between → between < view → IsParent knowledge between → ⊥
 
+  -- What is noted, so that a parent is found without a walk: these views are known to be nullified,
+  -- and no view above the last is such a view, which isn't before the floor.
+  pub record AreNoted (first end last : ℕ) (knowledge : KnowledgeView D) : Type 0 where
+    pub nullified :
+        (view : ℕ) → first ≤ view → view < end → (learned_at knowledge view).nullified ≡ true
+    pub no_parent : (view : ℕ) → last < view → IsParent knowledge view → ⊥
+    pub from_floor : knowledge.floor ≤ last
+
   abbrev pub HasRoom : KnowledgeView D → ℕ → Type 0
   HasRoom knowledge view = is_some (slot_at knowledge.views view) ≡ true
 

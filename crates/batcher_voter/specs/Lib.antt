@@ -6,3 +6,4 @@ pub mod Refusals
 pub mod Needing
 pub mod Reopening
 pub mod Journals
+pub mod Unstarted

@@ -21,6 +21,8 @@ use Rattle.batcher_node.specs.Events.{vote_cast}
 use Rattle.batcher_node.specs.Nodes.{NodeConfig, NodeView, slot_at}
 use Rattle.batcher.specs.Answers.{own_answer}
 use Rattle.batcher.specs.Steps.{fault_or_memory}
+use Rattle.batcher.specs.answers.OwnFault.{OwnFault}
+use Rattle.batcher.specs.answers.OwnFault.TheVariants.{OutOfMemory}
 use Rattle.batcher_node.specs.Represents.{ForEachNodeHistory, NodeRepresents, config_of}
 use Rattle.batcher_node.specs.Windows.{is_of, numbered}
 use Rattle.batcher_node.specs.declared.answers.Receipt.{Receipt}
@@ -112,13 +114,17 @@ module _ {S G D L : Type 0} where
       (voter.journal.is_open ≡ true) × Contains voter.journal.contents.votes vote
 
 module _ {S D K G C : Type 0} (x : NodeConfig D K G C) where
-  -- Why a vote that was written isn't shown to the node.
-  abbrev pub WhyNotShown : NodeView S G D → Vote G D → CastFault G D → Type 0
-  WhyNotShown node vote NoMemory = ⊤
-  WhyNotShown node vote (Excluded fault) =
+  -- The node excludes a vote by this fault. Where the fault is memory, it doesn't exclude it.
+  abbrev pub AnswersOwn : NodeView S G D → Vote G D → OwnFault → Type 0
+  AnswersOwn node vote fault =
       ForEachNodeHistory x node (λ past.
       let view = (round_in (subject_of vote)).view.0 in
       fault ≡ fault_or_memory (own_answer (config_of x past view) (view_history view past) vote))
+
+  -- Why a vote that was written isn't shown to the node.
+  abbrev pub WhyNotShown : NodeView S G D → Vote G D → CastFault G D → Type 0
+  WhyNotShown node vote NoMemory = AnswersOwn node vote OutOfMemory
+  WhyNotShown node vote (Excluded fault) = AnswersOwn node vote fault
   WhyNotShown node vote fault = ⊥
 
 module _ {S D K G C L : Type 0} (x : NodeConfig D K G C) where
@@ -217,7 +223,13 @@ module _ {S D K G C L : Type 0} (x : NodeConfig D K G C) where
   Casts old vote OutsideVote new =
       (is_of x.epoch old.node.window (round_in (subject_of vote)) ≡ false) × (new ≡ old)
 
-  -- Why a vote isn't cast. Memory and room in the journal may be out whenever they are needed.
+  -- A vote that may be signed isn't written.
+  pub record IsUnwritten (same : D → D → Bool) (old : VoterView S G D L) (vote : Vote G D)
+      (new : VoterView S G D L) : Type 0 where
+    pub permits : ForEachLife old (Permits same old (subject_of vote) Sign)
+    pub contents : new.journal.contents ≡ old.journal.contents
+
+  -- Why a vote isn't cast. Memory is out for one that isn't refused otherwise.
   abbrev pub WhyNotCast : (D → D → Bool) → VoterView S G D L → Vote G D → CastFault G D
       → VoterView S G D L → Type 0
   WhyNotCast same old vote (RefusedBy rule) new =
@@ -230,7 +242,9 @@ module _ {S D K G C L : Type 0} (x : NodeConfig D K G C) where
   WhyNotCast same old vote NoRoom new = new.journal.is_open ≡ true
   WhyNotCast same old vote (Excluded fault) new =
       WhyNotShown x old.node vote (Excluded fault)
-  WhyNotCast same old vote fault new = ⊤
+  WhyNotCast same old vote NoMemory new =
+      (new.journal.is_open ≡ true)
+      × (IsUnwritten same old vote new ⊎ WhyNotShown x old.node vote NoMemory)
 
   -- where the node refused it: it may be written
   pub record MayWrite (vote : Vote G D) (past : VoterHistory D K G C) (earlier : Conduct D)

@@ -4,18 +4,20 @@ ghost use Rattle.std.specs.Prelude.{◌≡◌, ◌≢◌, ◌∷◌, MatchBool, 
 ghost use Rattle.batcher.specs.Verifiers.{certifies_itself};
 ghost use Rattle.batcher.specs.Votes.{round_in, subject_certified};
 ghost use Rattle.batcher_agreement.specs.Lives.{verified};
+ghost use Rattle.batcher_node.specs.Events.{forgery_came};
+ghost use Rattle.batcher_node.specs.Represents.{NodeMeets, ahead_answer};
 ghost use Rattle.batcher_bytes.specs.Messages.{certificate_format};
 ghost use Rattle.batcher_voter.specs.Keeping.{HasOnDisk, IsKnownAlready};
 ghost use Rattle.batcher_voter.specs.Knowledge.{HasRoom};
 ghost use Rattle.batcher_voter.specs.Reopening.{StaysKnown};
-ghost use Rattle.batcher_voter.specs.Voting.{ForEachLife, IsVoting, VoterStays};
+ghost use Rattle.batcher_voter.specs.Voting.{ForEachLife, IsVoting, VoterMeets, VoterStays};
 
 use crate::voter::Voter;
 use batcher::messages::{Certificate, Digest, Identical};
 use batcher::positions::Round;
 use batcher::scheme::Scheme;
 use batcher_bytes::{Codec, Log, OwnedCodec};
-use batcher_node::NodeConfigs;
+use batcher_node::{Ahead, NodeConfigs, Receipt};
 use std::alloc::AllocError;
 
 impl<S: Scheme<D>, D: Digest + Codec, L: Log> Voter<S, D, L>
@@ -23,6 +25,49 @@ where
     S::Signature: Codec + Identical,
     S::Certificate: OwnedCodec,
 {
+    /// Takes in a certificate from beyond the window that a peer sent, as the node does: who forged
+    /// it is blocked. One that certifies isn't learned yet: hand it to `learn_verified`.
+    pub fn receive_ahead(
+        &mut self,
+        peer: S::PublicKey,
+        certificate: &Certificate<S::Certificate, D>,
+    ) -> Receipt<Ahead>
+        ensures answer { result ≡ ahead_answer (⟦<S as NodeConfigs<D>>⟧.of self.old.node)
+            self.old.node peer certificate.now }
+        ensures forged { result ≡ Receipt.Answered Ahead.Forged
+            → VoterMeets (⟦<S as NodeConfigs<D>>⟧.of self.old.node) self.old self.new
+            (forgery_came peer certificate.now) }
+        ensures stays { result ≢ Receipt.Answered Ahead.Forged → self.new ≡ self.old }
+        ensures node { self.new.node
+            ≡ record self.old.node { blocked = self.new.node.blocked } }
+        ensures journal { self.new.journal ≡ self.old.journal }
+        ensures knowledge { self.new.knowledge ≡ self.old.knowledge }
+        ensures waits { self.new.waits ≡ self.old.waits }
+    {
+        self.call_ahead(peer, certificate)
+    }
+
+    // The node takes it in.
+    fn call_ahead(
+        &mut self,
+        peer: S::PublicKey,
+        certificate: &Certificate<S::Certificate, D>,
+    ) -> Receipt<Ahead>
+        ensures answer { result ≡ ahead_answer (⟦<S as NodeConfigs<D>>⟧.of self.old.node)
+            self.old.node peer certificate.now }
+        ensures forged { result ≡ Receipt.Answered Ahead.Forged
+            → NodeMeets (⟦<S as NodeConfigs<D>>⟧.of self.old.node) self.old.node
+            (forgery_came peer certificate.now) self.new.node }
+        ensures stays { result ≢ Receipt.Answered Ahead.Forged → self.new ≡ self.old }
+        ensures node { self.new.node
+            ≡ record self.old.node { blocked = self.new.node.blocked } }
+        ensures journal { self.new.journal ≡ self.old.journal }
+        ensures knowledge { self.new.knowledge ≡ self.old.knowledge }
+        ensures waits { self.new.waits ≡ self.old.waits }
+    {
+        self.node.receive_ahead(peer, certificate)
+    }
+
     /// Learns a certificate that was verified, as one of a view beyond the window. What is known
     /// has no window, so that its view is no gap once the window is there. What can't be kept for
     /// the disk isn't learned.

@@ -42,9 +42,10 @@ pub enum Permission<G, D> {
 /// Why a vote wasn't cast. Nothing is handed out to be sent then.
 #[derive(Clone, Copy, Debug, PartialEq, Eq)]
 pub enum CastFault<G, D> {
-    /// Nothing has changed, or the vote was written and wasn't shown to the node: cast it again.
+    /// The vote isn't refused otherwise. Nothing has changed, or it was written and wasn't shown to
+    /// the node: cast it again.
     OutOfMemory,
-    /// The journal has no room left. Nothing has changed. Finalize a later view.
+    /// The journal has no room for it. Nothing has changed. Finalize a later view.
     Full,
     /// It is signed by another participant. Nothing has changed.
     NotOwn,

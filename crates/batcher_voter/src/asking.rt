@@ -117,6 +117,16 @@ where
         }
     }
 
+    /// No proposal of a view above this one is known to be notarized.
+    pub fn last_parent(&self) -> u64
+        ensures { ForEachLife (⟦<S as NodeConfigs<D>>⟧.of self.now.node) self.now (λ past earlier.
+            (p : TheProposal D) → p.round.epoch ≡ self.now.node.epoch
+            → Knows (conduct_of past) (Notarize p) → p.round.view.0 ≤ result) }
+    {
+        self.begins();
+        self.known_parent()
+    }
+
     // What is to be done about a subject that no vote is for, or contradicts.
     fn permission(&self, subject: &Subject<D>) -> Permission<S::Signature, D>
         requires open { self.now.journal.is_open ≡ true }
@@ -244,6 +254,14 @@ where
         ensures { result ≡ (learned_at self.now.knowledge view).notarized }
     {
         self.knowledge.at(view).notarized
+    }
+
+    // No view above this one is one on which a proposal may be.
+    fn known_parent(&self) -> u64
+        ensures none { (view : ℕ) → result < view → IsParent self.now.knowledge view → ⊥ }
+        ensures from_floor { self.now.knowledge.floor ≤ result }
+    {
+        self.knowledge.last_parent()
     }
 
     fn parent_below(&self, view: u64) -> Option<u64>

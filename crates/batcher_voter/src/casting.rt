@@ -6,7 +6,8 @@ ghost use Rattle.batcher.specs.Votes.{attestation_of, round_in, subject_of};
 ghost use Rattle.batcher_agreement.specs.Lives.{written};
 ghost use Rattle.batcher_node.specs.Events.{view_history};
 ghost use Rattle.batcher_journal.specs.Answers.{MayBeWrittenBehind};
-ghost use Rattle.batcher_journal.specs.Ready.{HasContents, IsAsBefore, WriteLeaves, with_more};
+ghost use Rattle.batcher_journal.specs.Ready.{HasContents, HasNoRoomFor, IsAsBefore, WriteLeaves};
+ghost use Rattle.batcher_journal.specs.Ready.{with_more};
 ghost use Rattle.batcher_voter.specs.Journals.{MayGain};
 ghost use Rattle.batcher_bytes.specs.Messages.{vote_format};
 ghost use Rattle.batcher_journal.specs.declared.journal.WriteFault.TheVariants.{Closed as WriteClosed};
@@ -61,6 +62,9 @@ where
             past earlier self.new)) }
         ensures why { IfErr result (λ fault. WhyNotCast (⟦<S as NodeConfigs<D>>⟧.of self.old.node)
             D.eq self.old vote fault self.new) }
+        ensures full { result ≡ Err CastFault.Full → HasNoRoomFor
+            (vote_format S.Signature.format D.format) L.is_full self.old.journal.log (vote ∷ [])
+            self.new.journal.unwritten }
         ensures leaves { (left : List ℕ) → self.old.journal.is_open ≡ true
             → L.is_honest self.new.journal.log → L.may_leave self.new.journal.log left
             → ForEachLife (⟦<S as NodeConfigs<D>>⟧.of self.old.node) self.old (λ past earlier.
@@ -103,6 +107,9 @@ where
             past earlier self.new)) }
         ensures why { IfErr result (λ fault. WhyNotCast (⟦<S as NodeConfigs<D>>⟧.of self.old.node)
             D.eq self.old vote fault self.new) }
+        ensures full { result ≡ Err CastFault.Full → HasNoRoomFor
+            (vote_format S.Signature.format D.format) L.is_full self.old.journal.log (vote ∷ [])
+            self.new.journal.unwritten }
         ensures leaves { (left : List ℕ) → self.old.journal.is_open ≡ true
             → L.is_honest self.new.journal.log → L.may_leave self.new.journal.log left
             → ForEachLife (⟦<S as NodeConfigs<D>>⟧.of self.old.node) self.old (λ past earlier.
@@ -140,6 +147,7 @@ where
         ensures refused { OnErr result (self.new ≡ self.old) }
         ensures why { IfErr result (λ fault. WhyNotCast (⟦<S as NodeConfigs<D>>⟧.of self.old.node)
             D.eq self.old vote fault self.new) }
+        ensures full { result ≡ Err CastFault.Full → ⊥ }
         ensures leaves { (left : List ℕ) → self.old.journal.is_open ≡ true
             → L.is_honest self.new.journal.log → L.may_leave self.new.journal.log left
             → ForEachLife (⟦<S as NodeConfigs<D>>⟧.of self.old.node) self.old (λ past earlier.
@@ -179,6 +187,9 @@ where
         ensures closed { result ≡ Err CastFault.Closed → self.new.journal.is_open ≡ false }
         ensures why { IfErr result (λ fault. WhyNotCast (⟦<S as NodeConfigs<D>>⟧.of self.old.node)
             D.eq self.old vote fault self.new) }
+        ensures full { result ≡ Err CastFault.Full → HasNoRoomFor
+            (vote_format S.Signature.format D.format) L.is_full self.old.journal.log (vote ∷ [])
+            self.new.journal.unwritten }
         ensures leaves { (left : List ℕ) → L.is_honest self.new.journal.log
             → L.may_leave self.new.journal.log left
             → ForEachLife (⟦<S as NodeConfigs<D>>⟧.of self.old.node) self.old (λ past earlier.
@@ -211,6 +222,9 @@ where
         ensures closed { result ≡ Err CastFault.Closed → self.new.journal.is_open ≡ false }
         ensures why { IfErr result (λ fault. WhyNotCast (⟦<S as NodeConfigs<D>>⟧.of self.old.node)
             D.eq self.old vote fault self.new) }
+        ensures full { result ≡ Err CastFault.Full → HasNoRoomFor
+            (vote_format S.Signature.format D.format) L.is_full self.old.journal.log (vote ∷ [])
+            self.new.journal.unwritten }
         ensures leaves { (left : List ℕ) → L.is_honest self.new.journal.log
             → L.may_leave self.new.journal.log left
             → ForEachLife (⟦<S as NodeConfigs<D>>⟧.of self.old.node) self.old (λ past earlier.
@@ -238,6 +252,9 @@ where
         ensures none { OnOk result (self.new.waits ≡ None) }
         ensures memory { result ≡ Err NoMemory → IsAsBefore self.old.journal self.new.journal }
         ensures full { result ≡ Err NoRoom → IsAsBefore self.old.journal self.new.journal }
+        ensures no_room { result ≡ Err NoRoom → HasNoRoomFor
+            (vote_format S.Signature.format D.format) L.is_full self.old.journal.log (vote.now ∷ [])
+            self.old.journal.unwritten }
         ensures not_free { result ≡ Err NotFree
             → MayBeWrittenBehind D.eq self.old.journal.contents.floor
             self.old.journal.contents.votes (vote.now ∷ []) → ⊥ }
@@ -271,6 +288,9 @@ where
             (with_more self.old.journal.contents votes.now self.old.journal.unwritten)) }
         ensures memory { result ≡ Err NoMemory → IsAsBefore self.old.journal self.new.journal }
         ensures full { result ≡ Err NoRoom → IsAsBefore self.old.journal self.new.journal }
+        ensures no_room { result ≡ Err NoRoom → HasNoRoomFor
+            (vote_format S.Signature.format D.format) L.is_full self.old.journal.log votes.now
+            self.old.journal.unwritten }
         ensures not_free { result ≡ Err NotFree
             → MayBeWrittenBehind D.eq self.old.journal.contents.floor
             self.old.journal.contents.votes votes.now → ⊥ }
@@ -302,6 +322,7 @@ where
         ensures refused { OnErr result (self.new ≡ self.old) }
         ensures why { IfErr result (WhyNotShown (⟦<S as NodeConfigs<D>>⟧.of self.old.node)
             self.old.node vote) }
+        ensures full { result ≡ Err CastFault.Full → ⊥ }
         ensures same { SameNode self.old.node self.new.node }
         ensures journal { self.new.journal ≡ self.old.journal }
         ensures waits { self.new.waits ≡ self.old.waits }

@@ -1,7 +1,7 @@
 //! What a voter knows to be certified.
 
 ghost use Rattle.std.specs.Prelude.{◌≡◌, ◌≢◌, ◌≤◌, ◌<◌, [], IfSome, MatchBool, MatchOption, None};
-ghost use Rattle.std.specs.Prelude.{OnErr, OnOk, Some, false, true, ℕ};
+ghost use Rattle.std.specs.Prelude.{OnErr, OnOk, Some, false, is_some, true, ℕ};
 ghost use Rattle.std.specs.BTreeMap.{get};
 ghost use Rattle.std.specs.Ordering.{nat_cmp};
 ghost use Rattle.batcher.specs.Votes.{round_in, same_proposal};
@@ -50,10 +50,16 @@ pub(crate) struct Knowledge<D: Digest> {
     floor: u64,
     highest: u64,
     views: BTreeMap<u64, Learned<D>>,
+    // The views from this one on are known to be nullified, ..
+    nullified_from: u64,
+    // .. as far as this one, which needn't be.
+    nullified_to: u64,
+    // No view above this one is a parent.
+    last_parent: u64,
 }
 
 impl<D: Digest> Model for Knowledge<D> {
-    ghost use Rattle.batcher_voter.specs.Knowledge.{KnowledgeView};
+    ghost use Rattle.batcher_voter.specs.Knowledge.{AreNoted, KnowledgeView};
 
     ghost Value = { KnowledgeView D };
 
@@ -63,6 +69,13 @@ impl<D: Digest> Model for Knowledge<D> {
       highest = k.highest;
       views = k.views.entries;
     } };
+
+    ghost invariant = { λ k. AreNoted k.nullified_from k.nullified_to k.last_parent (record {
+      epoch = k.epoch;
+      floor = k.floor;
+      highest = k.highest;
+      views = k.views.entries;
+    }) };
 }
 
 impl<D: Digest> Knowledge<D> {
@@ -77,6 +90,9 @@ impl<D: Digest> Knowledge<D> {
             floor,
             highest: floor,
             views: BTreeMap::new(alloc),
+            nullified_from: floor,
+            nullified_to: floor,
+            last_parent: floor,
         }
     }
 
@@ -133,13 +149,52 @@ impl<D: Digest> Knowledge<D> {
         requires { HasRoom self.old (round_in subject).view.0 }
         ensures { Learns subject self.old self.new }
     {
+        self.put(subject);
+        self.note_nullified(subject.round().view.0);
+    }
+
+    fn put(&mut self, subject: Subject<D>)
+        requires { HasRoom self.old (round_in subject).view.0 }
+        ensures { Learns subject self.old self.new }
+    {
         let view = subject.round().view.0;
         let learned = self.at(view).with(subject);
         self.highest = self.highest.max(view);
+        self.last_parent = last_parent_with(self.last_parent, view, &learned);
         match self.views.insert(view, learned) {
             Ok(_) => {}
             Err(_) => {}
         }
+    }
+
+    // Notes which views are nullified behind those of which that is noted. Where one isn't, and a
+    // view above the last parent is, it begins behind that parent: it is there that a proposal
+    // needs it.
+    fn note_nullified(&mut self, view: u64)
+        ensures { self.new ≡ self.old }
+    {
+        let end = self.nullified_until(self.nullified_to);
+        let parent = self.last_parent;
+        if end <= parent && parent < view {
+            self.nullified_from = parent + 1;
+            self.nullified_to = parent + 1;
+        } else {
+            self.nullified_to = end;
+        }
+    }
+
+    // The first view from this one on, or before the highest one, that isn't known to be nullified.
+    fn nullified_until(&self, first: u64) -> u64
+        ensures from { first ≤ result }
+        ensures nullified { (view : ℕ) → first ≤ view → view < result
+            → (learned_at self.now view).nullified ≡ true }
+    {
+        for view in first..self.highest() {
+            if !self.at(view).nullified {
+                return view;
+            }
+        }
+        first.max(self.highest())
     }
 
     /// Whether this is known to be certified, and of what is final, whether one of its view is.
@@ -162,6 +217,8 @@ impl<D: Digest> Knowledge<D> {
     {
         self.floor = self.floor.max(view);
         self.highest = self.highest.max(view);
+        self.nullified_from = self.nullified_from.max(view);
+        self.last_parent = self.last_parent.max(view);
         drop_before(&mut self.views, view);
     }
 
@@ -211,6 +268,32 @@ impl<D: Digest> Knowledge<D> {
         ensures none { result ≡ None → (parent : ℕ) → self.now.floor ≤ parent → parent < view
             → IsParent self.now parent → AreNullified self.now parent view → ⊥ }
     {
+        let last = self.last_parent();
+        if last < view && self.floor() <= last && self.is_parent(last) {
+            return match self.gap(last, view) {
+                Some(_) => None,
+                None => Some(last),
+            };
+        }
+        self.walk_below(view)
+    }
+
+    /// No view above this one is a parent.
+    pub(crate) fn last_parent(&self) -> u64
+        ensures none { (view : ℕ) → result < view → IsParent self.now view → ⊥ }
+        ensures from_floor { self.now.floor ≤ result }
+    {
+        self.last_parent
+    }
+
+    // The same where the last parent isn't below this one, or before the floor.
+    fn walk_below(&self, view: u64) -> Option<u64>
+        ensures some { IfSome result (λ parent. (parent < view) × ((self.now.floor ≤ parent)
+            × (IsParent self.now parent × (AreNullified self.now parent view
+            × HaveNoParent self.now parent view)))) }
+        ensures none { result ≡ None → (parent : ℕ) → self.now.floor ≤ parent → parent < view
+            → IsParent self.now parent → AreNullified self.now parent view → ⊥ }
+    {
         let mut below = view;
         while below > self.floor() {
             below -= 1;
@@ -246,13 +329,37 @@ impl<D: Digest> Knowledge<D> {
         ensures none { result ≡ None → (between : ℕ) → parent < between → between < view
             → (learned_at self.now between).nullified ≡ true }
     {
-        for between in parent + 1..view {
+        for between in self.behind_noted(parent + 1)..view {
             if !self.at(between).nullified {
                 return Some(between);
             }
         }
         None
     }
+
+    // The first view from this one on of which it isn't noted that it is nullified.
+    fn behind_noted(&self, first: u64) -> u64
+        ensures from { first ≤ result }
+        ensures nullified { (view : ℕ) → first ≤ view → view < result
+            → (learned_at self.now view).nullified ≡ true }
+    {
+        if self.nullified_from <= first {
+            return first.max(self.nullified_to);
+        }
+        first
+    }
+}
+
+// No view above this one is a parent, where this is known of a view, and none was above the last.
+fn last_parent_with<D>(last: u64, view: u64, learned: &Learned<D>) -> u64
+    ensures from { last ≤ result }
+    ensures notarized { is_some learned.now.notarized ≡ true → view ≤ result }
+    ensures finalized { is_some learned.now.finalized ≡ true → view ≤ result }
+{
+    if learned.notarized.is_some() || learned.finalized.is_some() {
+        return last.max(view);
+    }
+    last
 }
 
 // Whether it is this proposal.

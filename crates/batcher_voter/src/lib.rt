@@ -14,5 +14,5 @@ mod starting;
 mod voter;
 
 pub use answers::{CastFault, FinalizeFault, Permission, Rule, StartFault};
-pub use starting::NotStarted;
+pub use starting::{NotStarted, what_is_readable_starts};
 pub use voter::Voter;

@@ -5,10 +5,11 @@ ghost use Rattle.std.specs.Prelude.{true, false};
 ghost use Rattle.batcher.specs.Votes.{kind_certified, round_in, subject_certified};
 ghost use Rattle.batcher_agreement.specs.Lives.{called, verified};
 ghost use Rattle.batcher_node.specs.Events.{view_finalized};
-ghost use Rattle.batcher_journal.specs.Ready.{HasContents, IsAsBefore, RaiseLeaves, raised};
+ghost use Rattle.batcher_journal.specs.Ready.{HasContents, IsAsBefore, IsTooLongFor, RaiseLeaves};
+ghost use Rattle.batcher_journal.specs.Ready.{raised};
 ghost use Rattle.batcher_bytes.specs.Messages.{certificate_format, vote_format};
 ghost use Rattle.batcher_journal.specs.Floors.{is_below};
-ghost use Rattle.batcher_voter.specs.Journals.{IsRaised};
+ghost use Rattle.batcher_voter.specs.Journals.{IsRaised, IsTooLongToFinalize};
 ghost use Rattle.batcher_journal.specs.declared.journal.RaiseFault.TheVariants.{Closed as RaiseClosed};
 ghost use Rattle.batcher_journal.specs.declared.journal.RaiseFault.TheVariants.{Full as RaiseFull};
 ghost use Rattle.batcher_journal.specs.declared.journal.RaiseFault.TheVariants.{Lower};
@@ -63,8 +64,14 @@ where
             → (round_in (subject_certified finalization.now)).view.0
             < self.old.node.window.finalized }
         ensures closed { result ≡ Err FinalizeFault.Closed → self.new.journal.is_open ≡ false }
+        ensures memory { result ≡ Err FinalizeFault.OutOfMemory
+            → self.new.journal.is_open ≡ self.old.journal.is_open }
         ensures full { result ≡ Err FinalizeFault.Full
             → self.new.journal.is_open ≡ self.old.journal.is_open }
+        ensures too_long { result ≡ Err FinalizeFault.Full
+            → IsTooLongToFinalize (vote_format S.Signature.format D.format)
+            (certificate_format S.Certificate.format D.format) L.is_too_small finalization.now
+            self.old.journal }
         ensures leaves { (left : List ℕ) → self.old.journal.is_open ≡ true
             → L.is_honest self.new.journal.log → L.may_leave self.new.journal.log left
             → ForEachLife (⟦<S as NodeConfigs<D>>⟧.of self.old.node) self.old (λ past earlier.
@@ -125,8 +132,14 @@ where
         ensures of_epoch { result ≡ Err FinalizeFault.NotOfEpoch → ⊥ }
         ensures passed { result ≡ Err FinalizeFault.Passed → ⊥ }
         ensures closed { result ≡ Err FinalizeFault.Closed → self.new.journal.is_open ≡ false }
+        ensures memory { result ≡ Err FinalizeFault.OutOfMemory
+            → self.new.journal.is_open ≡ self.old.journal.is_open }
         ensures full { result ≡ Err FinalizeFault.Full
             → self.new.journal.is_open ≡ self.old.journal.is_open }
+        ensures too_long { result ≡ Err FinalizeFault.Full
+            → IsTooLongToFinalize (vote_format S.Signature.format D.format)
+            (certificate_format S.Certificate.format D.format) L.is_too_small finalization.now
+            self.old.journal }
         ensures leaves { (left : List ℕ) → self.old.journal.is_open ≡ true
             → L.is_honest self.new.journal.log → L.may_leave self.new.journal.log left
             → ForEachLife (⟦<S as NodeConfigs<D>>⟧.of self.old.node) self.old (λ past earlier.
@@ -180,6 +193,10 @@ where
         ensures memory { result ≡ Err RaiseMemory
             → IsAsBefore self.old.journal self.new.journal }
         ensures full { result ≡ Err RaiseFull → IsAsBefore self.old.journal self.new.journal }
+        ensures too_long { result ≡ Err RaiseFull
+            → IsTooLongFor (vote_format S.Signature.format D.format) L.is_too_small
+            self.old.journal.log (raised self.old.journal.contents self.old.journal.unwritten
+            self.old.journal.contents.owner round finalization.now) }
         ensures lower { result ≡ Err Lower → ⊥ }
         ensures closed { result ≡ Err RaiseClosed → self.new.journal.is_open ≡ false }
         ensures leaves { (left : List ℕ) → self.old.journal.is_open ≡ true

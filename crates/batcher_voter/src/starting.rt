@@ -1,14 +1,21 @@
 //! A voter is made from its journal.
 
 ghost use Rattle.std.specs.Prelude.{◌≡◌, ◌≢◌, ◌≤◌, ◌<◌, ◌⊎◌, ◌∷◌, [], All, HoldsAt, IfErr, IfOk};
-ghost use Rattle.std.specs.Prelude.{OnOk};
-ghost use Rattle.std.specs.Prelude.{length, true};
+ghost use Rattle.std.specs.Prelude.{Bool, MatchBool, Ok, OnOk, length, true};
 ghost use Rattle.batcher.specs.Verifiers.{certifies_itself};
 ghost use Rattle.batcher.specs.Votes.{kind_certified, round_in, subject_certified};
+ghost use Rattle.batcher.specs.messages.Certificate.{Certificate as TheCertificate};
 ghost use Rattle.batcher.specs.messages.Kind.TheVariants.{Finalization};
 ghost use Rattle.batcher_voter.specs.Knowledge.{HasLearned, HasRoom, IsHighest, Learns};
+ghost use Rattle.batcher_bytes.specs.Format.{whole};
 ghost use Rattle.batcher_bytes.specs.Messages.{certificate_format, versioned};
 ghost use Rattle.batcher_voter.specs.Keeping.{HasOnDisk};
+ghost use Rattle.batcher_types.specs.declared.positions.Round.{Round as TheRound};
+ghost use Rattle.batcher_voter.specs.Unstarted.{AreReadable, WhyNotLearned, WhyNotStarted};
+ghost use Rattle.batcher_voter.specs.Unstarted.{WhyUnread};
+ghost use Rattle.batcher_journal.specs.Text.{Contents};
+ghost use Rattle.batcher_voter.specs.declared.answers.StartFault.{StartFault as TheFault};
+ghost use Rattle.batcher_voter.specs.declared.answers.StartFault.TheVariants.{OutOfMemory as NoMemory};
 ghost use Rattle.batcher_voter.specs.Reopening.{IsFinalView, IsKindKnown, IsTakenIn, StaysKnown};
 ghost use Rattle.batcher_agreement.specs.Policy.{Conduct, KeepsPolicy};
 ghost use Rattle.batcher_node.specs.Events.{started};
@@ -69,6 +76,9 @@ where
         }) }
         ensures journal { IfOk result (λ voter. voter.journal ≡ journal) }
         ensures refused { IfErr result (λ it. it.journal ≡ journal) }
+        ensures why { IfErr result (λ it. WhyNotStarted
+            (certificate_format S.Certificate.format D.format) journal.contents
+            (certifies_itself (S.meaning scheme.value)) it.fault) }
     {
         let mut voter = match Voter::begin(alloc, scheme, ahead, track_historical_votes, journal) {
             Ok(voter) => voter,
@@ -106,6 +116,7 @@ where
         }) }
         ensures journal { IfOk result (λ voter. voter.journal ≡ journal) }
         ensures refused { IfErr result (λ it. it.journal ≡ journal) }
+        ensures memory { IfErr result (λ it. it.fault ≡ NoMemory) }
     {
         let floor = journal.floor();
         let made = Node::new(
@@ -151,6 +162,9 @@ where
         ensures kept { OnOk result (All (IsTakenIn
             (certificate_format S.Certificate.format D.format) self.old.node.epoch
             self.new.knowledge) self.old.journal.contents.certificates) }
+        ensures why { IfErr result (WhyNotStarted
+            (certificate_format S.Certificate.format D.format) self.old.journal.contents
+            (certifies_itself (S.meaning self.old.node.scheme))) }
         ensures node { self.new.node ≡ self.old.node }
         ensures journal { self.new.journal ≡ self.old.journal }
     {
@@ -171,6 +185,9 @@ where
             → HasStarted (⟦<S as NodeConfigs<D>>⟧.of self.old.node) earlier self.new) }
         ensures known { OnOk result ((self.old.journal.contents.floor.view.0 ≡ 0)
             ⊎ IsFinalView self.new.knowledge self.old.journal.contents.floor.view.0) }
+        ensures why { IfErr result (WhyNotStarted
+            (certificate_format S.Certificate.format D.format) self.old.journal.contents
+            (certifies_itself (S.meaning self.old.node.scheme))) }
         ensures node { self.new.node ≡ self.old.node }
         ensures journal { self.new.journal ≡ self.old.journal }
     {
@@ -183,9 +200,16 @@ where
                     drop(certificate);
                     return Err(StartFault::Malformed);
                 }
-                let learned = self.take_in(round, &certificate);
-                drop(certificate);
-                learned
+                match self.take_in(round, &certificate) {
+                    Ok(()) => {
+                        drop(certificate);
+                        Ok(())
+                    }
+                    Err(fault) => {
+                        drop(certificate);
+                        Err(fault)
+                    }
+                }
             }
             Err(fault) => Err(fault),
         }
@@ -200,6 +224,9 @@ where
             (certificate_format S.Certificate.format D.format) self.old.node.epoch
             self.new.knowledge) self.old.journal.contents.certificates) }
         ensures stays { StaysKnown self.old.knowledge self.new.knowledge }
+        ensures why { IfErr result (WhyNotStarted
+            (certificate_format S.Certificate.format D.format) self.old.journal.contents
+            (certifies_itself (S.meaning self.old.node.scheme))) }
         ensures node { self.new.node ≡ self.old.node }
         ensures journal { self.new.journal ≡ self.old.journal }
     {
@@ -213,6 +240,7 @@ where
     }
 
     fn learn_at(&mut self, i: usize) -> Result<(), StartFault>
+        requires { i < length self.old.journal.contents.certificates }
         ensures started { OnOk result ((earlier : Conduct D)
             → HasStarted (⟦<S as NodeConfigs<D>>⟧.of self.old.node) earlier self.old
             → HasStarted (⟦<S as NodeConfigs<D>>⟧.of self.old.node) earlier self.new) }
@@ -220,6 +248,9 @@ where
             (certificate_format S.Certificate.format D.format) self.old.node.epoch
             self.new.knowledge) self.old.journal.contents.certificates i) }
         ensures stays { StaysKnown self.old.knowledge self.new.knowledge }
+        ensures why { IfErr result (WhyNotStarted
+            (certificate_format S.Certificate.format D.format) self.old.journal.contents
+            (certifies_itself (S.meaning self.old.node.scheme))) }
         ensures node { self.new.node ≡ self.old.node }
         ensures journal { self.new.journal ≡ self.old.journal }
     {
@@ -240,39 +271,56 @@ where
 
     // Whether the floor is the start of the epoch.
     fn begins_with_epoch(&self) -> bool
-        ensures { result ≡ true → self.now.journal.contents.floor.view.0 ≡ 0 }
+        ensures { MatchBool result (self.now.journal.contents.floor.view.0 ≡ 0)
+            (self.now.journal.contents.finalization ≡ []
+            → self.now.journal.contents.floor.view.0 ≢ 0) }
     {
         self.journal.floor().view.0 == 0 && self.journal.finalization().is_empty()
     }
 
+    // The floor's finalization, where it isn't the start of the epoch.
     fn floor_certificate(&self) -> Result<(Round, Certificate<S::Certificate, D>), StartFault>
+        requires { self.now.journal.contents.finalization ≡ []
+            → self.now.journal.contents.floor.view.0 ≢ 0 }
         ensures round { IfOk result (λ it. it.0 ≡ self.now.journal.contents.floor) }
         ensures bytes { IfOk result (λ it. self.now.journal.contents.finalization
             ≡ (versioned (certificate_format S.Certificate.format D.format)).encoding it.1) }
+        ensures decoded { IfOk result (λ it. whole
+            (versioned (certificate_format S.Certificate.format D.format))
+            self.now.journal.contents.finalization ≡ Ok it.1) }
+        ensures why { IfErr result (WhyNotStarted
+            (certificate_format S.Certificate.format D.format) self.now.journal.contents
+            (certifies_itself (S.meaning self.now.node.scheme))) }
     {
         let bytes = self.journal.finalization();
         if bytes.is_empty() {
             return Err(StartFault::NotFinal);
         }
-        let certificate = decoded(self.alloc, bytes)?;
-        Ok((self.journal.floor(), certificate))
+        match decoded(self.alloc, bytes) {
+            Ok(certificate) => Ok((self.journal.floor(), certificate)),
+            Err(fault) => Err(fault),
+        }
     }
 
     fn kept_certificate(
         &self,
         i: usize,
     ) -> Result<(Round, Certificate<S::Certificate, D>), StartFault>
+        requires { i < length self.now.journal.contents.certificates }
         ensures at { IfOk result (λ it. HoldsAt (λ kept. (kept.0 ≡ it.0) × (kept.1
             ≡ (versioned (certificate_format S.Certificate.format D.format)).encoding it.1))
             self.now.journal.contents.certificates i) }
-        ensures within { OnOk result (i < length self.now.journal.contents.certificates) }
+        ensures decoded { IfOk result (λ it. HoldsAt (λ kept. whole
+            (versioned (certificate_format S.Certificate.format D.format)) kept.1 ≡ Ok it.1)
+            self.now.journal.contents.certificates i) }
+        ensures why { IfErr result (WhyNotStarted
+            (certificate_format S.Certificate.format D.format) self.now.journal.contents
+            (certifies_itself (S.meaning self.now.node.scheme))) }
     {
-        match self.journal.certificates().get(i) {
-            Some(kept) => {
-                let certificate = decoded(self.alloc, kept.certificate())?;
-                Ok((kept.round(), certificate))
-            }
-            None => Err(StartFault::Malformed),
+        let kept = &self.journal.certificates()[i];
+        match decoded(self.alloc, kept.certificate()) {
+            Ok(certificate) => Ok((kept.round(), certificate)),
+            Err(fault) => Err(fault),
         }
     }
 
@@ -293,6 +341,8 @@ where
         ensures of_round { OnOk result (round_in (subject_certified certificate.now) ≡ round) }
         ensures learned { OnOk result ((round.epoch ≢ self.old.node.epoch)
             ⊎ IsKindKnown self.new.knowledge (subject_certified certificate.now)) }
+        ensures why { IfErr result (WhyNotLearned
+            (certifies_itself (S.meaning self.old.node.scheme)) round certificate.now) }
         ensures stays { StaysKnown self.old.knowledge self.new.knowledge }
         ensures node { self.new.node ≡ self.old.node }
         ensures journal { self.new.journal ≡ self.old.journal }
@@ -308,15 +358,15 @@ where
             return Err(StartFault::Forged);
         }
         match self.make_room(round.view.0) {
-            Ok(()) => self.take_in_with_room(certificate),
+            Ok(()) => {
+                self.take_in_with_room(certificate);
+                Ok(())
+            }
             Err(_) => Err(StartFault::OutOfMemory),
         }
     }
 
-    fn take_in_with_room(
-        &mut self,
-        certificate: &Certificate<S::Certificate, D>,
-    ) -> Result<(), StartFault>
+    fn take_in_with_room(&mut self, certificate: &Certificate<S::Certificate, D>)
         requires certifies { certifies_itself (S.meaning self.old.node.scheme) certificate.now
             ≡ true }
         requires epoch { (round_in (subject_certified certificate.now)).epoch
@@ -325,28 +375,44 @@ where
             (round_in (subject_certified certificate.now)).view.0 }
         requires there { HasOnDisk (certificate_format S.Certificate.format D.format)
             self.old.journal.contents certificate.now }
-        ensures started { OnOk result ((earlier : Conduct D)
+        ensures started { (earlier : Conduct D)
             → HasStarted (⟦<S as NodeConfigs<D>>⟧.of self.old.node) earlier self.old
-            → HasStarted (⟦<S as NodeConfigs<D>>⟧.of self.old.node) earlier self.new) }
-        ensures learns { OnOk result (Learns (subject_certified certificate.now)
-            self.old.knowledge self.new.knowledge) }
+            → HasStarted (⟦<S as NodeConfigs<D>>⟧.of self.old.node) earlier self.new }
+        ensures learns { Learns (subject_certified certificate.now) self.old.knowledge
+            self.new.knowledge }
         ensures stays { StaysKnown self.old.knowledge self.new.knowledge }
         ensures node { self.new.node ≡ self.old.node }
         ensures journal { self.new.journal ≡ self.old.journal }
     {
         self.begins();
         self.note(certificate.subject());
-        Ok(())
     }
 }
+
+/// Does nothing. Where each certificate of a journal is read as one of its round that certifies, a
+/// voter is refused for memory alone.
+pub fn what_is_readable_starts<S: Scheme<D>, D: Digest + Codec>()
+where
+    S::Signature: Codec,
+    S::Certificate: OwnedCodec,
+    ensures { (contents : Contents S.Signature D)
+        (certifies : TheCertificate S.Certificate D → Bool) (fault : TheFault)
+        → AreReadable (certificate_format S.Certificate.format D.format) contents certifies
+        → WhyNotStarted (certificate_format S.Certificate.format D.format) contents certifies
+        fault → fault ≡ NoMemory }
+{}
 
 // The certificate that bytes are.
 fn decoded<C: OwnedCodec, D: Digest + Codec>(
     alloc: Global,
     bytes: &[u8],
 ) -> Result<Certificate<C, D>, StartFault>
-    ensures { IfOk result (λ it. bytes.now
+    ensures bytes { IfOk result (λ it. bytes.now
         ≡ (versioned (certificate_format C.format D.format)).encoding it) }
+    ensures whole { IfOk result (λ it. whole (versioned (certificate_format C.format D.format))
+        bytes.now ≡ Ok it) }
+    ensures why { (at : TheRound) → IfErr result (WhyUnread
+        (certificate_format C.format D.format) (at, bytes.now)) }
 {
     match decode_owned(alloc, bytes) {
         Ok(certificate) => Ok(certificate),

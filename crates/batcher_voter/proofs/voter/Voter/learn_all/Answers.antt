@@ -1,4 +1,4 @@
-use Rattle.batcher_voter.proofs.Words.{All, subst, certificate_format, IsTakenIn}
+use Rattle.batcher_voter.proofs.Words.{All, subst, certificate_format, certifies_itself, IsTakenIn, WhyNotStarted}
 use Rattle.batcher_voter.proofs.voter.Voter.learn_all.Goals as goal
 
 pub returns-in-Ok-learn_kept-clause-kept : goal.returns-in-Ok-learn_kept-clause-kept
@@ -12,3 +12,12 @@ returns-in-Ok-learn_kept-clause-kept g c =
     subst
     (λ journal. All (IsTakenIn format c.args.self.now.node.epoch knowledge) journal.contents.certificates)
     c.in-Ok.ensures.journal of_node
+
+pub returns-in-Err-learn_kept-clause-why : goal.returns-in-Err-learn_kept-clause-why
+returns-in-Err-learn_kept-clause-why g c =
+    let format = certificate_format g.S.Certificate.OwnedCodec.format g.D.Codec.format in
+    let mid = c.learn_floor.new.self in
+    subst (λ n. WhyNotStarted format c.args.self.now.journal.contents (certifies_itself (g.S.Scheme.meaning n.scheme))
+    c.in-Err-learn_kept.fault) c.in-Ok.ensures.node
+    (subst (λ j. WhyNotStarted format j.contents (certifies_itself (g.S.Scheme.meaning mid.node.scheme))
+    c.in-Err-learn_kept.fault) c.in-Ok.ensures.journal c.in-Err-learn_kept.ensures.why)

@@ -1,4 +1,5 @@
-use Rattle.batcher_voter.proofs.Words.{◌∙◌, slice_index_or, subst, certificate_format, node_config, IsTakenIn, HasStarted}
+use Rattle.batcher_voter.proofs.Words.{◌<◌, ◌∙◌, ap, length, slice_index_or, subst, sym, certificate_format, certifies_itself, node_config}
+use Rattle.batcher_voter.proofs.Words.{IsTakenIn, HasStarted, WhyNotStarted}
 use Rattle.batcher_voter.proofs.Reopening.{one_more}
 use Rattle.batcher_voter.proofs.voter.Voter.learn_kept.Goals as goal
 
@@ -36,3 +37,18 @@ loop-i-preserved g c =
         ),
       ),
     )
+
+pub learn_at-requires : goal.learn_at-requires
+learn_at-requires g c =
+    subst (λ j. c.loop-i.i < length j.contents.certificates) (sym c.loop-i.invariant.1.1.1.1)
+    (subst (λ xs. c.loop-i.i < length xs) (c.certificates-i-end.ensures
+    ∙ ap (λ v. v.journal.contents.certificates) c.self.view_is) c.loop-i-test.true)
+
+pub returns-in-Err-clause-why : goal.returns-in-Err-clause-why
+returns-in-Err-clause-why g c =
+    let format = certificate_format g.S.Certificate.OwnedCodec.format g.D.Codec.format in
+    let before = c.loop-i.invariant in
+    subst (λ n. WhyNotStarted format c.args.self.now.journal.contents (certifies_itself (g.S.Scheme.meaning n.scheme))
+    c.in-Err.fault) before.1.1.1.0
+    (subst (λ j. WhyNotStarted format j.contents (certifies_itself (g.S.Scheme.meaning c.loop-i.self.node.scheme))
+    c.in-Err.fault) before.1.1.1.1 c.in-Err.ensures.why)

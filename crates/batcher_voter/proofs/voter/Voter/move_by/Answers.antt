@@ -1,6 +1,7 @@
 use Rattle.batcher_voter.proofs.Words.{◌≡◌, ◌≤◌, ◌++◌, ◌∙◌, certificate_format, versioned, IsFinalOf, IsSafelyKept, ap, false, subst, sym, round_in}
 use Rattle.batcher_voter.proofs.Words.{subject_certified, is_below, raised, view_finalized, node_config, NodeMeets}
 use Rattle.batcher_voter.proofs.Words.{Forgets, Learns}
+use Rattle.batcher_voter.proofs.Words.{Err, vote_format, IsTooLongFor}
 use Rattle.batcher_voter.proofs.Leaving.{leaves_raised}
 use Rattle.batcher_voter.proofs.Finalizing.{finalized_by}
 use Rattle.batcher_voter.proofs.Keeping.{final_of, final_on_disk, safely_on_disk}
@@ -86,3 +87,16 @@ note-requires-clause-kept g c =
     (ap (λ k. k.floor) raised ∙ c.round.ensures)
     (ap (λ k. k.finalization) raised ∙ c.deref.ensures.value ∙ c.in-Ok.ensures.ok
     ∙ ap (λ before. before ++ (versioned format).encoding c.args.finalization.now) c.new-bytes.ensures.items)))
+
+pub returns-in-Err-Full-clause-too_long : goal.returns-in-Err-Full-clause-too_long
+returns-in-Err-Full-clause-too_long g c = λ is.
+    let old = c.args.self.now in
+    let format = certificate_format g.S.Certificate.OwnedCodec.format g.D.Codec.format in
+    subst (λ bytes. IsTooLongFor (vote_format g.S.Signature.Codec.format g.D.Codec.format) g.L.Log.is_too_small old.journal.log
+    (raised old.journal.contents old.journal.unwritten old.journal.contents.owner
+    (round_in (subject_certified c.args.finalization.now)) bytes))
+    (c.deref.ensures.value ∙ c.in-Ok.ensures.ok
+    ∙ ap (λ before. before ++ (versioned format).encoding c.args.finalization.now) c.new-bytes.ensures.items)
+    (subst (λ r. IsTooLongFor (vote_format g.S.Signature.Codec.format g.D.Codec.format) g.L.Log.is_too_small old.journal.log
+    (raised old.journal.contents old.journal.unwritten old.journal.contents.owner r c.deref.result.now)) c.round.ensures
+    (c.in-Err-Full.ensures.too_long (ap (λ e. Err e) c.in-Err-Full.field-0-is)))

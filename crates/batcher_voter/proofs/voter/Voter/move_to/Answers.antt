@@ -1,4 +1,4 @@
-use Rattle.batcher_voter.proofs.Words.{◌≡◌, ◌≤◌, ◌∙◌, arith, rules, subst, sym, true, certificate_format, vote_format, RaiseLeaves}
+use Rattle.batcher_voter.proofs.Words.{◌≡◌, ◌≤◌, ◌∙◌, arith, rules, subst, sym, true, certificate_format, vote_format, raised, IsTooLongFor, RaiseLeaves}
 use Rattle.batcher_voter.proofs.Keeping.{after_raise, raised_keeps}
 use Rattle.batcher_voter.proofs.voter.Voter.move_to.Goals as goal
 
@@ -50,3 +50,9 @@ returns-in-Ok-clause-leaves g c = λ left is_open honest may.
     v.journal.contents.owner c.args.round c.args.finalization.now left) c.self.view_is
     (c.raise_floor.ensures.leaves left (subst (λ v. v.journal.is_open ≡ true) (sym c.self.view_is) is_open)
     honest may)
+
+pub returns-in-Err-clause-too_long : goal.returns-in-Err-clause-too_long
+returns-in-Err-clause-too_long g c = λ is.
+    subst (λ v. IsTooLongFor (vote_format g.S.Signature.Codec.format g.D.Codec.format) g.L.Log.is_too_small v.journal.log
+    (raised v.journal.contents v.journal.unwritten v.journal.contents.owner c.args.round c.args.finalization.now)) c.self.view_is
+    (c.raise_floor.ensures.too_long (c.in-Err.is ∙ is))

@@ -1,4 +1,5 @@
 use Rattle.batcher_voter.proofs.Words.{◌≡◌, ◌⊎◌, All, subst, sym, certificate_format, node_config, Remembers, IsFinalView, IsTakenIn, HasStarted}
+use Rattle.batcher_voter.proofs.Words.{certifies_itself, WhyNotStarted}
 use Rattle.batcher_voter.proofs.Beginning.{begun}
 use Rattle.batcher_voter.proofs.voter.Voter.start.Goals as goal
 
@@ -27,3 +28,12 @@ returns-in-Ok-learn_all-clause-knows_kept g c =
     (subst
     (λ journal. All (IsTakenIn format c.in-Ok.voter.node.epoch knowledge) journal.contents.certificates)
     c.in-Ok.ensures.journal c.in-Ok-learn_all.ensures.kept)
+
+pub returns-in-Err-learn_all-clause-why : goal.returns-in-Err-learn_all-clause-why
+returns-in-Err-learn_all-clause-why g c =
+    let format = certificate_format g.S.Certificate.OwnedCodec.format g.D.Codec.format in
+    let first = c.in-Ok.voter in
+    subst (λ s. WhyNotStarted format c.args.journal.contents (certifies_itself (g.S.Scheme.meaning s))
+    c.in-Err-learn_all.fault) c.in-Ok.ensures.scheme
+    (subst (λ j. WhyNotStarted format j.contents (certifies_itself (g.S.Scheme.meaning first.node.scheme))
+    c.in-Err-learn_all.fault) c.in-Ok.ensures.journal c.in-Err-learn_all.ensures.why)

@@ -1,4 +1,4 @@
-use Rattle.batcher_voter.proofs.Words.{subst, node_config, Shows, WhyNotShown}
+use Rattle.batcher_voter.proofs.Words.{◌∙◌, ap, subst, node_config, Shows, WhyNotShown}
 use Rattle.batcher_voter.proofs.Noding.{why_not_shown, wrote_alone, wrote_and_shown}
 use Rattle.batcher_voter.proofs.voter.Voter.write_and_show.Goals as goal
 
@@ -21,6 +21,6 @@ returns-in-Err-show-clause-why g c =
     let config = node_config g.S.Scheme.meaning g.S.PublicKey.Ord.cmp g.S.Signature.PartialEq.eq
     g.D.PartialEq.eq in
     why_not_shown (config c.args.self.now.node) g.D.PartialEq.eq c.args.self.now c.show.new.self c.args.vote
-    c.in-Err-show.fault
+    c.in-Err-show.fault (ap (λ j. j.is_open) c.show.ensures.journal ∙ c.in-Ok.ensures.open)
     (subst (λ node. WhyNotShown (config node) node c.args.vote c.in-Err-show.fault) c.in-Ok.ensures.node
     c.in-Err-show.ensures.why)

@@ -1,5 +1,5 @@
 use Rattle.batcher_voter.proofs.Words.{◌≡◌, ◌≤◌, ◌<◌, ℕ, true, IsParent, learned_at}
-use Rattle.batcher_voter.proofs.knowledge.Knowledge.parent_below.Given as goal
+use Rattle.batcher_voter.proofs.knowledge.Knowledge.walk_below.Given as goal
 
 abbrev pub invariant-loop-below : goal.invariant-loop-below
 invariant-loop-below g l =
