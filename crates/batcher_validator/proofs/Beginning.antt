@@ -77,7 +77,8 @@ module _ {S D K G C L : Type 0} (x : NodeConfig D K G C) (validator : ValidatorV
         blocked = blocked;
         calm = false;
         announced = 0;
-        tally = record { begun = count; recast = 0; sent = 0 };
+        tally = record { begun = count; recast = 0; sent = 0; resent = 0 };
+        resending = record { from = 0; turn = 0 };
         asked = 0;
         verifying = false;
         forwarding = None;
@@ -108,6 +109,8 @@ module _ {S D K G C L : Type 0} (x : NodeConfig D K G C) (validator : ValidatorV
           no_others = λ view was. absurd was;
         };
         votes = λ opened. rw (given) (first_none _ _ _ _ (λ s was. was));
+        votes_again = λ opened. rw (given) (first_none _ _ _ _ (λ s was. was));
+        resends = rw (given) (refl, refl);
         begins = λ opened. rw (given, all) (first_all (has.voting.remembers opened));
         casts = λ opened. rw (given) (first_none _ _ _ _ (λ s was. was));
         kept = record {

@@ -36,6 +36,8 @@ module _ {S D K G C L : Type 0} (x : NodeConfig D K G C) (old new : ValidatorVie
           calms = rw (given) is.calms;
           finals = rw (given) is.finals;
           votes = rw (voter, given) is.votes;
+          votes_again = rw (voter, given) is.votes_again;
+          resends = rw (given) is.resends;
           begins = rw (voter, given) is.begins;
           casts = rw (voter, given) is.casts;
           kept = rw (shelf) (kept_still x past (chose p ∷ past) refl old.shelf.certificates (λ c had. had) is.kept);
@@ -67,6 +69,8 @@ module _ {S D K G C L : Type 0} (x : NodeConfig D K G C) (old new : ValidatorVie
           calms = rw (given) is.calms;
           finals = rw (given) is.finals;
           votes = rw (voter, given) is.votes;
+          votes_again = rw (voter, given) is.votes_again;
+          resends = rw (given) is.resends;
           begins = rw (voter, given) is.begins;
           casts = rw (voter, given) is.casts;
           kept = rw (shelf) (kept_still x past (expired view ∷ past) refl old.shelf.certificates (λ c had. had) is.kept);
@@ -98,6 +102,8 @@ module _ {S D K G C L : Type 0} (x : NodeConfig D K G C) (old new : ValidatorVie
           calms = rw (given) is.calms;
           finals = rw (given) is.finals;
           votes = rw (voter, given) is.votes;
+          votes_again = rw (voter, given) is.votes_again;
+          resends = rw (given) is.resends;
           begins = rw (voter, given) is.begins;
           casts = rw (voter, given) is.casts;
           kept = rw (shelf) (kept_still x past (refused s ∷ past) refl old.shelf.certificates (λ c had. had) is.kept);
@@ -127,6 +133,8 @@ module _ {S D K G C L : Type 0} (x : NodeConfig D K G C) (old new : ValidatorVie
           calms = rw (given) is.calms;
           finals = rw (given) is.finals;
           votes = rw (voter, given) is.votes;
+          votes_again = rw (voter, given) is.votes_again;
+          resends = rw (given) is.resends;
           begins = rw (voter, given) is.begins;
           casts = rw (voter, given) is.casts;
           kept = rw (shelf) (kept_still x past (gave (Sign s) ∷ past) refl old.shelf.certificates (λ c had. had) is.kept);
@@ -157,6 +165,8 @@ module _ {S D K G C L : Type 0} (x : NodeConfig D K G C) (old new : ValidatorVie
           calms = rw (given) is.calms;
           finals = rw (given) is.finals;
           votes = rw (voter, given) is.votes;
+          votes_again = rw (voter, given) is.votes_again;
+          resends = rw (given) is.resends;
           begins = rw (voter, given) is.begins;
           casts = rw (voter, given) is.casts;
           kept = rw (shelf) (kept_still x past (gave (Propose view parent) ∷ past) refl old.shelf.certificates (λ c had. had) is.kept);
@@ -186,6 +196,8 @@ module _ {S D K G C L : Type 0} (x : NodeConfig D K G C) (old new : ValidatorVie
           calms = rw (given) is.calms;
           finals = rw (given) is.finals;
           votes = rw (voter, given) is.votes;
+          votes_again = rw (voter, given) is.votes_again;
+          resends = rw (given) is.resends;
           begins = rw (voter, given) is.begins;
           casts = rw (voter, given) is.casts;
           kept = rw (shelf) (kept_still x past (gave (Judge p) ∷ past) refl old.shelf.certificates (λ c had. had) is.kept);

@@ -140,17 +140,20 @@ module _ {S D K G C L : Type 0} (config : NodeView S G D → NodeConfig D K G C)
         ap (λ w. w.finalized) is.voting.represents.window_is,
       ))
 
-  -- nor of one of which nothing is known.
+  -- nor of one above all of which a proposal is known to be notarized.
   pub all_views :
-      BeginWithOneView old.voter → x.epoch ≡ old.voter.node.epoch
-      → ((view : ℕ) → view < old.voter.knowledge.highest + 1 → (p : Proposal D)
+      (last : ℕ) → ForEachLife x old.voter (λ past earlier. (p : Proposal D)
+      → p.round.epoch ≡ old.voter.node.epoch → Knows (conduct_of past) (Notarize p)
+      → p.round.view.0 ≤ last)
+      → x.epoch ≡ old.voter.node.epoch
+      → ((view : ℕ) → view < last + 1 → (p : Proposal D)
       → p.round.view.0 ≡ view → IsNotToSign config old (Finalize p))
       → (p : Proposal D) → IsNotToSign config old (Finalize p)
-  all_views begins epoch each p past earlier is wanted may =
+  all_views last none epoch each p past earlier is wanted may =
       each p.round.view.0
       (omega (
         arith,
-        is.voting.is_highest.none_above (Notarize p) may.0.rests
-            (same_epoch x.epoch (window_by past) p.round may.0.within ∙ epoch ∙ sym begins.of_epoch),
+        none (voter_history past) earlier is.voting p
+            (same_epoch x.epoch (window_by past) p.round may.0.within ∙ epoch) may.0.rests,
       ))
       p refl past earlier is wanted may

@@ -5,6 +5,7 @@ use Rattle.batcher_validator.proofs.Words.{Certificate, FinalizationCertificate,
 use Rattle.batcher_validator.proofs.Words.{Participant, Conduct, NodeConfig, Cause, GivesOnAndOn, HasLessLeft, WaitsForVote, finals_left, is_final_after}
 use Rattle.batcher_validator.proofs.Words.{others_left, ValidatorHistory, gave, Gives, IsRunning, ValidatorView, IsFinalAt, is_from, Task, Block, Final}
 use Rattle.batcher_validator.proofs.Words.{SendVote, Sign}
+use Rattle.batcher_validator.proofs.Words.{◌-◌, max, subject_of, is_earlier, IsPlaceFrom, IsPlaceToSend}
 
 -- one for what passes a test
 abbrev one_if : Bool → ℕ
@@ -112,6 +113,15 @@ module _ (R : ℕ → Type 0) (F O : ℕ → ℕ) (W : (n : ℕ) → R n → Typ
   pub never : GoesOn → R 0 → ⊥
   never goes r = first goes (F 0 + 1) 0 r (omega arith)
 
+-- with a vote that is sent, or sent again, fewer are left
+fewer_votes :
+    (all sent resent place next : ℕ) → place < all
+    → (place ≡ sent) ⊎ ((resent ≤ place) × (place < sent)) → place + 1 ≤ next
+    → (all - max sent (place + 1)) + (max sent (place + 1) - next) < (all - sent) + (sent - resent)
+fewer_votes all sent resent place next lt (inl end) behind = omega (arith, lt, end, behind)
+fewer_votes all sent resent place next lt (inr before) behind =
+    omega (arith, lt, before.0, before.1, behind)
+
 finalized : {D : Type 0} (q p : Proposal D) → Finalize q ≡ Finalize p → q ≡ p
 finalized q p e = cc e
 
@@ -170,16 +180,44 @@ module _ {S D K G C L : Type 0} (x : NodeConfig D K G C) (old new : ValidatorVie
     )
 
     pub vote_less :
-        (vote : Vote G D)
-        → old.given.tally.sent < length old.voter.journal.contents.votes
+        (vote : Vote G D) (place next : ℕ)
+        → place < length old.voter.journal.contents.votes → IsPlaceToSend old place
+        → IsPlaceFrom old.given.resending.from old.voter.journal.contents.votes (place + 1)
+        (max old.given.tally.sent (place + 1)) next
         → new.given ≡ record old.given {
-          tally = record old.given.tally { sent = old.given.tally.sent + 1 };
+          tally = record old.given.tally {
+            sent = max old.given.tally.sent (place + 1);
+            resent = next;
+          };
         }
         → HasLessLeft x old new (SendVote vote)
-    vote_less vote lt given = (
+    vote_less vote place next lt here behind given = (
       rw (given, shelf) refl,
-      rw (given, voter, shelf) (omega (arith, lt)),
+      rw (given, voter, shelf) (omega (
+        arith,
+        fewer_votes (length old.voter.journal.contents.votes) old.given.tally.sent old.given.tally.resent
+            place next lt (place_at here.found) (next_at behind.found),
+      )),
     )
+      where
+        place_at :
+            (place ≡ old.given.tally.sent)
+            ⊎ ((old.given.tally.resent ≤ place) × ((place < old.given.tally.sent)
+            × ((w : Vote G D) → slice_get old.voter.journal.contents.votes place ≡ Some w
+            → is_earlier old.given.resending.from (subject_of w) ≡ false)))
+            → (place ≡ old.given.tally.sent)
+            ⊎ ((old.given.tally.resent ≤ place) × (place < old.given.tally.sent))
+        place_at (inl end) = inl end
+        place_at (inr before) = inr (before.0, before.1.0)
+
+        next_at :
+            (next ≡ max old.given.tally.sent (place + 1))
+            ⊎ ((place + 1 ≤ next) × ((next < max old.given.tally.sent (place + 1))
+            × ((w : Vote G D) → slice_get old.voter.journal.contents.votes next ≡ Some w
+            → is_earlier old.given.resending.from (subject_of w) ≡ false)))
+            → place + 1 ≤ next
+        next_at (inl end) = omega (arith, end)
+        next_at (inr before) = before.0
 
 -- What a validator went through, as it is polled again and again.
 module _ {S D K G C L : Type 0} (x : NodeConfig D K G C) (earlier : Conduct D) where

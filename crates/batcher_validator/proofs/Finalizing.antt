@@ -4,12 +4,15 @@ use Rattle.batcher_validator.proofs.Words.{unwrap_or, count_by, filter, certifie
 use Rattle.batcher_validator.proofs.Words.{Finalization, Proposal, Finalize, called, verified, Conduct, cause_in, view_finalized, NodeConfig, Tally, ForEachRun}
 use Rattle.batcher_validator.proofs.Words.{GivenView, Gives, IsRunning, RunStays, ValidatorView, WhyNotFinal, tally_from, left_of, IsFinalAt, is_from, calls_in}
 use Rattle.batcher_validator.proofs.Words.{HasHad, HasHanded, ValidatorHistory, did, gave, voter_history, window_by, Final, IsRaised, NotOfEpoch, Passed}
-use Rattle.batcher_validator.proofs.Words.{ForEachLife, IsVoting, VoterStays}
+use Rattle.batcher_validator.proofs.Words.{ForEachLife, IsVoting, VoterStays, IsLowestFinal, IsNextFinal, HasAnnouncedFrom, Kind, Round, cases_lt}
 use Rattle.batcher_validator.proofs.Intending.{still_intent}
-use Rattle.batcher_validator.proofs.Giving.{contained, kind_of}
+use Rattle.batcher_validator.proofs.Giving.{contained, final_of, kind_of}
 use Rattle.batcher_validator.proofs.Going.{or_none, goes_on, sent_raised, sent_still}
 use Rattle.batcher_validator.proofs.Keeping.{first_from, kept_from, kept_still}
 use Rattle.batcher_voter.specs.declared.answers.FinalizeFault.TheVariants.{Forged}
+
+finalized : {D : Type 0} (p q : Proposal D) → Finalize p ≡ Finalize q → p ≡ q
+finalized p q e = cc e
 
 module _ {S D K G C L : Type 0} (x : NodeConfig D K G C) (old new : ValidatorView S G D L C)
     (c : Certificate C D) (there : Contains old.shelf.certificates c) where
@@ -18,6 +21,7 @@ module _ {S D K G C L : Type 0} (x : NodeConfig D K G C) (old new : ValidatorVie
       (called (view_finalized p.round.view.0) ∷ verified c ∷ past) earlier new.voter))
       (raised : IsRaised p.round old.voter.journal new.voter.journal)
       (unannounced : old.given.announced < p.round.view.0)
+      (lowest : IsLowestFinal old.given.announced old.shelf.certificates p)
       (given : new.given ≡ record old.given {
         tally = tally_from p.round old;
         announced = p.round.view.0;
@@ -55,13 +59,41 @@ module _ {S D K G C L : Type 0} (x : NodeConfig D K G C) (old new : ValidatorVie
           (voting (voter_history past) earlier is.voting)
           (λ opened. (
             raised.was_open,
-            λ Was count are. sent_raised Was old.voter.journal new.voter.journal count p.round raised are,
+            λ is_exempt Was count are. sent_raised is_exempt Was old.voter.journal new.voter.journal count p.round raised are,
           ))
           (λ yes. (yes, λ i. or_none (cause_in x (calls_in past) i)))
           refl
           (rw (certificates) (kept_from x past Before p.round.view.0 refl up c had old.shelf.certificates there is.kept))
           (rw (certificates, handed) (first_from x past Before p.round.view.0 refl up c had old.shelf.certificates
           there (λ key. HasHanded past key) old.shelf.handed is.certificates))
+
+      -- what counted before and is of a lower view was given as final
+      next_final : IsNextFinal x Before p
+      next_final d counts q of_q some = of_cases counts.had
+        where
+          before : HasHad past d
+              → (p.round.view.0 ≤ q.round.view.0) ⊎ HasAnnouncedFrom Before q.round.view.0
+          before was =
+              let it = is.kept.are_there d (record { had = was; looked_at = counts.looked_at }) in
+              let other = final_of it.item (ap (λ (k : Kind × Round). k.0) it.is_of ∙ kind_of d q of_q) in
+              let round : other.0.round ≡ q.round =
+              sym (ap round_in other.1) ∙ ap (λ (k : Kind × Round). k.1) it.is_of ∙ ap round_in of_q in
+              let view : other.0.round.view.0 ≡ q.round.view.0 = ap (λ (r : Round). r.view.0) round in
+              elim (cases_lt old.given.announced q.round.view.0) [
+                | inl above ↦
+                    let up : old.given.announced < other.0.round.view.0 = omega (arith, view, above) in
+                    inl (omega (arith, view, lowest it.item it.there other.0 other.1 up))
+                | inr within ↦ inr (moved.finals.were_asked q.round.view.0 some within)
+              ]
+
+          of_cases :
+              HasHad (did (verified c) ∷ past) d
+              → (p.round.view.0 ≤ q.round.view.0) ⊎ HasAnnouncedFrom Before q.round.view.0
+          of_cases (inl held) =
+              let same : c ≡ d = ap (λ o. unwrap_or o c) held in
+              let one : Finalize p ≡ Finalize q = sym is_of ∙ ap subject_certified same ∙ of_q in
+              inl (omega (arith, ap (λ (r : Proposal D). r.round.view.0) (finalized p q one)))
+          of_cases (inr was) = before was
 
       gives : IsRunning x (gave (Final p) ∷ Before) earlier new
       gives =
@@ -76,7 +108,10 @@ module _ {S D K G C L : Type 0} (x : NodeConfig D K G C) (old new : ValidatorVie
                 },
                 (
                   window,
-                  λ was. absurd (omega (arith, unannounced, moved.finals.no_others p.round.view.0 was)),
+                  (
+                    λ was. absurd (omega (arith, unannounced, moved.finals.no_others p.round.view.0 was)),
+                    next_final,
+                  ),
                 ),
               ),
               moved.in_turn,
@@ -91,6 +126,8 @@ module _ {S D K G C L : Type 0} (x : NodeConfig D K G C) (old new : ValidatorVie
               ];
             });
             votes = λ opened. rw (given) (moved.votes opened);
+            votes_again = λ opened. rw (given) (moved.votes_again opened);
+            resends = rw (given) moved.resends;
             begins = λ opened. rw (given) (moved.begins opened);
             casts = λ opened. rw (given) (moved.casts opened);
             kept = kept_still x Before (gave (Final p) ∷ Before) refl new.shelf.certificates (λ d h. h) moved.kept;
@@ -120,7 +157,7 @@ not_announced x old new given shelf stays still past earlier is =
     goes_on x old new [] past earlier (λ n. n) is (stays (voter_history past) earlier is.voting)
     (λ opened. (
       (still opened).0,
-      λ Was count are. sent_still Was old.voter.journal new.voter.journal count (still opened).1 are,
+      λ is_exempt Was count are. sent_still is_exempt Was old.voter.journal new.voter.journal count (still opened).1 are,
     ))
     (λ yes. (yes, λ i. refl))
     given

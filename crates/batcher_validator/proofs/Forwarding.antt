@@ -1,7 +1,8 @@
 -- What a notarization notarizes that was given to be sent is given to be forwarded, and once.
 use Rattle.batcher_validator.proofs.Words.{◌≡◌, ◌⊎◌, ◌∙◌, ◌∷◌, [], Option, Some, None, ap, inl, inr, refl, subst, sym, Kind, Finalization, Notarization}
 use Rattle.batcher_validator.proofs.Words.{Nullification, Round, Conduct, NodeConfig, HasForwarded, HasHanded, ValidatorHistory, again, forward_with, gave}
-use Rattle.batcher_validator.proofs.Words.{to_forward, took, AreGivenInTurn, Forward, SendCertificate}
+use Rattle.batcher_validator.proofs.Words.{to_forward, took, turn_in, window_by, AreGivenInTurn, Forward, SendCertificate}
+use Rattle.batcher_validator.proofs.Repeating.{due_still, still_due}
 
 no_both : {number : Round} (o : Option Round) → o ≡ None → o ≡ Some number → ⊥
 no_both o none some = absurd cc
@@ -20,7 +21,11 @@ pub all_forwarded :
     → AreGivenInTurn x earlier past → (number : Round) → HasHanded past (Notarization, number)
     → HasForwarded past number ⊎ (to_forward past ≡ Some number)
 all_forwarded x earlier [] turn number handed = absurd handed
-all_forwarded x earlier (again ∷ past) turn number handed = absurd handed
+all_forwarded x earlier (again ∷ past) turn number handed =
+    elim (all_forwarded x earlier past turn number handed.1) [
+      | inl was ↦ inl (handed.0, was)
+      | inr due ↦ inr (due_still (window_by past) (turn_in past) (to_forward past) number due handed.0)
+    ]
 all_forwarded x earlier (gave (SendCertificate kind other) ∷ past) turn number (inl same) =
     inr (subst (λ (k : Kind × Round). forward_with k.0 k.1 (to_forward past) ≡ Some number) (sym same) refl)
 all_forwarded x earlier (gave (SendCertificate kind other) ∷ past) turn number (inr before) =
@@ -45,7 +50,9 @@ handed_before :
     {D K G C : Type 0} (past : ValidatorHistory D K G C) (number : Round)
     → to_forward past ≡ Some number → HasHanded past (Notarization, number)
 handed_before [] number due = absurd cc
-handed_before (again ∷ past) number due = absurd cc
+handed_before (again ∷ past) number due =
+    let still = still_due (window_by past) (turn_in past) (to_forward past) number due in
+    (still.1, handed_before past number still.0)
 handed_before (gave (SendCertificate Notarization other) ∷ past) number due =
     inl (ap notarization_of (is_it (Some other) refl due))
 handed_before (gave (SendCertificate Nullification other) ∷ past) number due =
@@ -63,7 +70,8 @@ forwarded_handed :
     → AreGivenInTurn x earlier past → (number : Round) → HasForwarded past number
     → HasHanded past (Notarization, number)
 forwarded_handed x earlier [] turn number was = absurd was
-forwarded_handed x earlier (again ∷ past) turn number was = absurd was
+forwarded_handed x earlier (again ∷ past) turn number was =
+    (was.0, forwarded_handed x earlier past turn number was.1)
 forwarded_handed x earlier (gave (SendCertificate kind other) ∷ past) turn number was =
     inr (forwarded_handed x earlier past turn.1 number was)
 forwarded_handed x earlier (gave (Forward other) ∷ past) turn number (inl same) =
@@ -84,7 +92,9 @@ pub not_forwarded :
     → AreGivenInTurn x earlier past → (number : Round) → to_forward past ≡ Some number
     → HasForwarded past number → ⊥
 not_forwarded x earlier [] turn number due was = was
-not_forwarded x earlier (again ∷ past) turn number due was = was
+not_forwarded x earlier (again ∷ past) turn number due was =
+    not_forwarded x earlier past turn number
+    (still_due (window_by past) (turn_in past) (to_forward past) number due).0 was.1
 not_forwarded x earlier (gave (SendCertificate Notarization other) ∷ past) turn number due was =
     turn.0.1.0 (subst (λ r. HasHanded past (Notarization, r)) (sym (is_it (Some other) refl due))
     (forwarded_handed x earlier past turn.1 number was))

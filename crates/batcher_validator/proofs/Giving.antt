@@ -19,7 +19,11 @@ use Rattle.batcher_validator.proofs.Forwarding.{all_forwarded, not_forwarded}
 use Rattle.batcher_validator.proofs.Intending.{still_intent}
 use Rattle.batcher_validator.proofs.Keeping.{kept_still}
 use Rattle.batcher_validator.proofs.Learning.{all_learned}
-use Rattle.batcher_validator.proofs.Queueing.{before_differ, give_one, not_given}
+use Rattle.batcher_validator.proofs.Words.{◌||◌, max, turn_at, turn_in, still_to_forward, is_again, is_earlier, HasSentOnce, IsPlaceFrom}
+use Rattle.batcher_validator.proofs.Words.{IsPlaceToSend, SendsNone, PutsBehind}
+use Rattle.batcher_validator.proofs.Parting.{first_behind, kept_behind}
+use Rattle.batcher_validator.proofs.Repeating.{begin_sending, earlier_sent, not_since, pass_over, send_again_one, send_one, sent_once}
+use Rattle.batcher_validator.proofs.Queueing.{before_differ, contained_first, contained_more, give_one, not_given}
 
 -- no votes are being verified
 abbrev pub not_verifying : {D : Type 0} → GivenView D → GivenView D
@@ -30,7 +34,7 @@ contained xs i x there =
     (i, slice_get_within xs i x there, get_or_from_slice_get xs i x x there)
 
 -- A finalization is of the finalizing of a proposal.
-final_of : {C D : Type 0} (c : Certificate C D) → kind_certified c ≡ Finalization
+pub final_of : {C D : Type 0} (c : Certificate C D) → kind_certified c ≡ Finalization
     → (p : Proposal D) × (subject_certified c ≡ Finalize p)
 final_of (NotarizationCertificate n) e = absurd cc
 final_of (NullificationCertificate n) e = absurd cc
@@ -42,32 +46,6 @@ pub kind_of : {C D : Type 0} (c : Certificate C D) (p : Proposal D)
 kind_of (NotarizationCertificate n) p e = absurd cc
 kind_of (NullificationCertificate n) p e = absurd cc
 kind_of (FinalizationCertificate f) p e = refl
-
--- the one at a place is among the first, of which there are more
-contained_first :
-    {X : Type 0} (xs : List X) (i n : ℕ) (x : X) → slice_get xs i ≡ Some x → i < n
-    → Contains (take n xs) x
-contained_first [] i n x there lt = absurd cc
-contained_first (y ∷ ys) zero zero x there lt = absurd (omega (arith, lt))
-contained_first (y ∷ ys) zero (suc n) x there lt =
-    (0, omega arith, ap (λ o. unwrap_or o x) there)
-contained_first (y ∷ ys) (suc i) zero x there lt = absurd (omega (arith, lt))
-contained_first (y ∷ ys) (suc i) (suc n) x there lt =
-    let it = contained_first ys i n x there (omega (arith, lt)) in
-    (suc it.0, omega (arith, it.1), it.2)
-
--- the first ones are among the first, of which there are no fewer
-contained_more :
-    {X : Type 0} (xs : List X) (n m : ℕ) (x : X) → n ≤ m → Contains (take n xs) x
-    → Contains (take m xs) x
-contained_more [] zero m x le there = absurd (omega (arith, there.1))
-contained_more [] (suc n) m x le there = absurd (omega (arith, there.1))
-contained_more (y ∷ ys) zero m x le there = absurd (omega (arith, there.1))
-contained_more (y ∷ ys) (suc n) zero x le there = absurd (omega (arith, le))
-contained_more (y ∷ ys) (suc n) (suc m) x le (zero, lt, is) = (0, omega arith, is)
-contained_more (y ∷ ys) (suc n) (suc m) x le (suc k, lt, is) =
-    let it = contained_more ys n m x (omega (arith, le)) (k, omega (arith, lt), is) in
-    (suc it.0, omega (arith, it.1), it.2)
 
 past_end : {X : Type 0} (xs : List X) (i : ℕ) → slice_get xs i ≡ None → length xs ≤ i
 past_end [] i none = omega arith
@@ -101,25 +79,46 @@ module _ {S D K G C L : Type 0} (x : NodeConfig D K G C) (old new : ValidatorVie
         absurd cc
 
     pub gives_vote :
-        count ≡ old.given.tally.sent
-        → new.given ≡ record old.given { tally = record old.given.tally { sent = count + 1 } }
+        (next : ℕ) → IsPlaceToSend old count
+        → IsPlaceFrom old.given.resending.from votes (count + 1)
+        (max old.given.tally.sent (count + 1)) next
+        → new.given ≡ record old.given {
+          tally = record old.given.tally {
+            sent = max old.given.tally.sent (count + 1);
+            resent = next;
+          };
+        }
         → Gives x old new (SendVote vote)
-    gives_vote here given past earlier is =
+    gives_vote next here behind given past earlier is =
         record {
           voting = rw (voter) is.voting;
           in_turn = (
             (
               (is.voting.remembers opened).no_others vote (contained votes count vote there),
-              not_given subject_of (is_over_for floor) (λ s. HasSent past s) votes count first vote may.1 differs,
+              not_since (is_over_for floor) (λ s. HasSentOnce past s) (λ s. HasSent past s) from votes
+                  old.given.tally.sent (is.votes opened) (sent_once past) since_once
+                  old.given.tally.resent count (is.votes_again opened) here vote there may.1 differs,
             ),
             is.in_turn,
           );
           blocks = rw (given) is.blocks;
           calms = rw (given) is.calms;
           finals = rw (given) is.finals;
-          votes = λ still. rw (voter, given) (give_one subject_of (is_over_for floor) (λ s. HasSent past s)
-              votes count first (λ s. HasSent (gave (SendVote vote) ∷ past) s) vote there
-              (inl refl) (λ s was. inr was) (λ s was. was));
+          votes = λ still. rw (voter, given) once_now;
+          votes_again = λ still. rw (voter, given) (pass_over (is_over_for floor)
+              (λ s. HasSentOnce (gave (SendVote vote) ∷ past) s) (λ s. HasSent (gave (SendVote vote) ∷ past) s)
+              from votes (max old.given.tally.sent (count + 1)) once_now (sent_once (gave (SendVote vote) ∷ past))
+              (λ s earlier_one was. elim was [
+                | inl is_it ↦ inl is_it
+                | inr before ↦ inr (since_once s earlier_one before)
+              ]) (count + 1) next
+              (send_again_one (is_over_for floor) (λ s. HasSentOnce past s) (λ s. HasSent past s) from votes
+              old.given.tally.sent (is.votes opened) (sent_once past) since_once
+              old.given.tally.resent count (is.votes_again opened) here vote there may.1 differs
+              (λ s. HasSentOnce (gave (SendVote vote) ∷ past) s) (λ s. HasSent (gave (SendVote vote) ∷ past) s)
+              (inl refl) (inl refl) (λ s was. inr was) (λ s was. inr was) (λ s was. was) (λ s was. was))
+              behind);
+          resends = rw (given) is.resends;
           begins = rw (voter, given) is.begins;
           casts = rw (voter, given) is.casts;
           kept = rw (shelf) (kept_still x past (gave (SendVote vote) ∷ past) refl old.shelf.certificates
@@ -133,9 +132,23 @@ module _ {S D K G C L : Type 0} (x : NodeConfig D K G C) (old new : ValidatorVie
           decides = rw (given) is.decides;
         }
       where
-        first : AreFirst subject_of (is_over_for floor) (λ s. HasSent past s) votes count
-        first = subst (λ n. AreFirst subject_of (is_over_for floor) (λ s. HasSent past s) votes n) (sym here)
-            (is.votes opened)
+        from : ℕ
+        from = old.given.resending.from
+
+        since_once : (s : Subject D) → is_earlier old.given.resending.from s ≡ true
+            → HasSentOnce past s → HasSent past s
+        since_once s earlier_one was =
+            earlier_sent past s (subst (λ n. is_earlier n s ≡ true) (sym is.resends.0) earlier_one) was
+
+        once_now : AreFirst subject_of (is_over_for floor)
+            (λ s. HasSentOnce (gave (SendVote vote) ∷ past) s)
+            votes (max old.given.tally.sent (count + 1))
+        once_now =
+            send_one (is_over_for floor) (λ s. HasSentOnce past s) (λ s. HasSent past s) old.given.resending.from votes
+            old.given.tally.sent (is.votes opened) (sent_once past) since_once
+            old.given.tally.resent count (is.votes_again opened) here vote there may.1 differs
+            (λ s. HasSentOnce (gave (SendVote vote) ∷ past) s) (λ s. HasSent (gave (SendVote vote) ∷ past) s)
+            (inl refl) (inl refl) (λ s was. inr was) (λ s was. inr was) (λ s was. was) (λ s was. was)
 
     pub gives_cast :
         ForEachRun x old (λ past earlier. HasEntered x past)
@@ -159,6 +172,8 @@ module _ {S D K G C L : Type 0} (x : NodeConfig D K G C) (old new : ValidatorVie
           calms = rw (given) is.calms;
           finals = rw (given) is.finals;
           votes = rw (voter, given) is.votes;
+          votes_again = rw (voter, given) is.votes_again;
+          resends = rw (given) is.resends;
           begins = rw (voter, given) is.begins;
           casts = λ still. rw (voter, given) (give_one subject_of (is_over_for floor) (λ s. HasRecast past s)
               votes count first (λ s. HasRecast (gave (Cast vote) ∷ past) s) vote there
@@ -209,6 +224,8 @@ module _ {S D K G C L : Type 0} (x : NodeConfig D K G C) (old new : ValidatorVie
         calms = rw (given) is.calms;
         finals = rw (given) is.finals;
         votes = rw (voter, given) is.votes;
+        votes_again = rw (voter, given) is.votes_again;
+        resends = rw (given) is.resends;
         begins = rw (voter, given) is.begins;
         casts = rw (voter, given) is.casts;
         kept = rw (certificates) is_kept;
@@ -267,6 +284,8 @@ module _ {S D K G C L : Type 0} (x : NodeConfig D K G C) (old new : ValidatorVie
           ]);
           finals = rw (given) is.finals;
           votes = rw (voter, given) is.votes;
+          votes_again = rw (voter, given) is.votes_again;
+          resends = rw (given) is.resends;
           begins = rw (voter, given) is.begins;
           casts = rw (voter, given) is.casts;
           kept = rw (shelf) (kept_still x past (gave (Block who cause) ∷ past) refl old.shelf.certificates
@@ -304,6 +323,8 @@ module _ {S D K G C L : Type 0} (x : NodeConfig D K G C) (old new : ValidatorVie
           calms = rw (given) is.calms;
           finals = rw (given) is.finals;
           votes = rw (voter, given) is.votes;
+          votes_again = rw (voter, given) is.votes_again;
+          resends = rw (given) is.resends;
           begins = rw (voter, given) is.begins;
           casts = rw (voter, given) is.casts;
           kept = rw (shelf) (kept_still x past (gave (Enter view) ∷ past) refl old.shelf.certificates
@@ -348,6 +369,8 @@ module _ {S D K G C L : Type 0} (x : NodeConfig D K G C) (old new : ValidatorVie
           calms = rw (given) is.calms;
           finals = rw (given) is.finals;
           votes = rw (voter, given) is.votes;
+          votes_again = rw (voter, given) is.votes_again;
+          resends = rw (given) is.resends;
           begins = rw (voter, given) is.begins;
           casts = rw (voter, given) is.casts;
           kept = rw (shelf) (kept_still x past (gave Verify ∷ past) refl old.shelf.certificates
@@ -376,6 +399,8 @@ module _ {S D K G C L : Type 0} (x : NodeConfig D K G C) (old new : ValidatorVie
           calms = rw (given) is.calms;
           finals = rw (given) is.finals;
           votes = rw (voter, given) is.votes;
+          votes_again = rw (voter, given) is.votes_again;
+          resends = rw (given) is.resends;
           begins = rw (voter, given) is.begins;
           casts = rw (voter, given) is.casts;
           kept = rw (shelf) (kept_still x past (gave (Forward number) ∷ past) refl old.shelf.certificates
@@ -402,6 +427,8 @@ module _ {S D K G C L : Type 0} (x : NodeConfig D K G C) (old new : ValidatorVie
           calms = rw (given) is.calms;
           finals = rw (given) is.finals;
           votes = rw (voter, given) is.votes;
+          votes_again = rw (voter, given) is.votes_again;
+          resends = rw (given) is.resends;
           begins = rw (voter, given) is.begins;
           casts = rw (voter, given) is.casts;
           kept = rw (shelf) (kept_still x past (answered ∷ past) refl old.shelf.certificates (λ c had. had) is.kept);
@@ -415,28 +442,55 @@ module _ {S D K G C L : Type 0} (x : NodeConfig D K G C) (old new : ValidatorVie
         }
 
   pub begins_again :
-      new.given ≡ record old.given {
-        tally = record old.given.tally { sent = 0 };
-        forwarding = None;
+      (resent : ℕ)
+      → IsPlaceFrom old.voter.node.window.current old.voter.journal.contents.votes 0
+      old.given.tally.sent resent
+      → new.given ≡ record old.given {
+        tally = record old.given.tally { resent = resent };
+        resending = record {
+          from = old.voter.node.window.current;
+          turn = turn_at old.voter.node.window old.given.resending.turn + 1;
+        };
+        forwarding = still_to_forward old.voter.node.window old.given.resending.turn
+            old.given.forwarding;
         intent = record old.given.intent { signing = None; unsigned = nothing_unsigned };
       }
-      → new.shelf.certificates ≡ old.shelf.certificates
-      → new.shelf.handed ≡ 0 → RunMeets x old new again
-  begins_again given certificates handed past earlier is =
+      → PutsBehind (λ c. is_again old.voter.node.window old.given.resending.turn (kind_and_round c))
+      old.shelf new.shelf
+      → RunMeets x old new again
+  begins_again resent place given puts past earlier is =
       record {
         voting = rw (voter) is.voting;
         in_turn = is.in_turn;
         blocks = rw (given) is.blocks;
         calms = rw (given) is.calms;
         finals = rw (given) is.finals;
-        votes = λ opened. rw (voter, given) (first_none _ _ _ _ (λ s was. was));
+        votes = rw (voter, given) is.votes;
+        votes_again = λ opened. rw (voter, given) (again_since (rw (voter) at opened));
+        resends = rw (given) (
+          ap (λ w. w.current) (sym window),
+          ap (λ w. turn_at w (turn_in past) + 1) (sym window)
+              ∙ ap (λ n. turn_at old.voter.node.window n + 1) is.resends.1,
+        );
         begins = rw (voter, given) is.begins;
         casts = rw (voter, given) is.casts;
-        kept = rw (certificates) (kept_still x past (again ∷ past) refl old.shelf.certificates (λ c had. had) is.kept);
-        certificates = rw (certificates, handed) (first_none _ _ _ _ (λ key was. was));
+        kept = kept_behind x past old.shelf.certificates new.shelf.certificates puts.moves is.kept;
+        certificates = subst (λ w. AreFirst kind_and_round (is_before_view (window_by past).finalized)
+            (λ key. (is_again w (turn_in past) key ≡ false) × HasHanded past key)
+            new.shelf.certificates new.shelf.handed) window
+            (subst (λ n. AreFirst kind_and_round (is_before_view (window_by past).finalized)
+            (λ key. (is_again old.voter.node.window n key ≡ false) × HasHanded past key)
+            new.shelf.certificates new.shelf.handed) (sym is.resends.1)
+            (first_behind (is_before_view (window_by past).finalized)
+            (λ key. is_again old.voter.node.window old.given.resending.turn key) (λ key. HasHanded past key)
+            old.shelf new.shelf is.certificates puts));
         asks = rw (given) is.asks;
         verifies = rw (given) is.verifies;
-        forwards = rw (given) refl;
+        forwards = rw (given) (
+            ap (λ w. still_to_forward w (turn_in past) (to_forward past)) (sym window)
+            ∙ ap (λ n. still_to_forward old.voter.node.window n (to_forward past)) is.resends.1
+            ∙ ap (λ o. still_to_forward old.voter.node.window old.given.resending.turn o) is.forwards
+            );
         intends = rw (given) record {
           votes_as = is.intends.votes_as;
           signs = refl;
@@ -447,6 +501,23 @@ module _ {S D K G C L : Type 0} (x : NodeConfig D K G C) (old new : ValidatorVie
         };
         decides = rw (given) is.decides;
       }
+    where
+      window : old.voter.node.window ≡ window_by past
+      window = is.voting.represents.window_is
+
+      again_since : old.voter.journal.is_open ≡ true
+          → AreFirst subject_of
+          (λ s. is_earlier old.voter.node.window.current s
+          || is_over_for old.voter.journal.contents.floor s)
+          (λ s. HasSent (again ∷ past) s) old.voter.journal.contents.votes resent
+      again_since opened =
+          subst (λ w. AreFirst subject_of
+          (λ s. is_earlier w.current s || is_over_for old.voter.journal.contents.floor s)
+          (λ s. HasSent (again ∷ past) s) old.voter.journal.contents.votes resent) (sym window)
+          (begin_sending past (is_over_for old.voter.journal.contents.floor)
+          old.voter.journal.contents.votes old.given.tally.sent resent (is.votes opened)
+          (subst (λ w. IsPlaceFrom w.current old.voter.journal.contents.votes 0 old.given.tally.sent resent)
+          window place))
 
 -- It is calm, where nothing is due.
 pub becomes_calm :
@@ -461,6 +532,8 @@ becomes_calm x old new voter shelf given nothing past earlier is =
       calms = rw (given) (λ yes. (nothing past earlier is).meanwhile.blocks);
       finals = rw (given) is.finals;
       votes = rw (voter, given) is.votes;
+      votes_again = rw (voter, given) is.votes_again;
+      resends = rw (given) is.resends;
       begins = rw (voter, given) is.begins;
       casts = rw (voter, given) is.casts;
       kept = rw (shelf) is.kept;
@@ -485,7 +558,7 @@ module _ {S D K G C L : Type 0} (x : NodeConfig D K G C) (old : ValidatorView S 
   -- no vote of the journal is left
   no_vote_due :
       old.voter.journal.is_open ≡ true
-      → slice_get old.voter.journal.contents.votes old.given.tally.sent ≡ None
+      → SendsNone old
       → (s : Subject D) → HasVoted (conduct_in earlier past) s
       → is_below (numbered x.epoch (window_by past).finalized) (round_in s) ≡ false
       → HasSent past s
@@ -494,9 +567,22 @@ module _ {S D K G C L : Type 0} (x : NodeConfig D K G C) (old : ValidatorView S 
       let it = (is.voting.remembers opened).are_there s has
       (subst (λ f. is_below f (round_in s) ≡ false) (sym (floor_is opened)) above) in
       subst (λ t. HasSent past t) it.is_for
-      ((is.votes opened).were_given it.vote
+      ((all_sent opened).were_given it.vote
       (subst (λ vs. Contains vs it.vote)
-      (sym (take_all old.given.tally.sent votes (past_end votes old.given.tally.sent none))) it.there))
+      (sym (take_all none.place votes (past_end votes none.place none.none))) it.there))
+    where
+      all_sent : old.voter.journal.is_open ≡ true
+          → AreFirst subject_of
+          (λ s. is_earlier old.given.resending.from s
+          || is_over_for old.voter.journal.contents.floor s)
+          (λ s. HasSent past s) old.voter.journal.contents.votes none.place
+      all_sent still =
+          pass_over (is_over_for old.voter.journal.contents.floor) (λ s. HasSentOnce past s) (λ s. HasSent past s)
+          old.given.resending.from old.voter.journal.contents.votes old.given.tally.sent (is.votes still)
+          (sent_once past)
+          (λ s earlier_one was. earlier_sent past s
+          (subst (λ n. is_earlier n s ≡ true) (sym is.resends.0) earlier_one) was)
+          old.given.tally.resent none.place (is.votes_again still) none.is_next
 
   -- and none of an earlier life is left to be cast again
   no_cast_due :
@@ -677,7 +763,7 @@ module _ {S D K G C L : Type 0} (x : NodeConfig D K G C) (old : ValidatorView S 
       → HaveNoFinal old.given.announced old.shelf.certificates
       → (old.given.tally.begun ≤ old.given.tally.recast)
       ⊎ (slice_get old.voter.journal.contents.votes old.given.tally.recast ≡ None)
-      → slice_get old.voter.journal.contents.votes old.given.tally.sent ≡ None
+      → SendsNone old
       → length old.shelf.certificates ≤ old.shelf.handed
       → old.given.forwarding ≡ None
       → (2 ^ 64 ≤ old.voter.knowledge.highest + 1)

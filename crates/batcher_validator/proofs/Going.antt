@@ -9,9 +9,11 @@ use Rattle.batcher_validator.proofs.Words.{is_over_for, Shelves}
 use Rattle.batcher_validator.proofs.Words.{kind_and_round, HasAnnouncedFrom, HasAskedFrom, HasBlocked, HasHad, HasHanded, HasRecast, HadVoted, HasSent}
 use Rattle.batcher_validator.proofs.Words.{IsVerifying, ValidatorEvent, ValidatorHistory, calls_in, answered, did, only_did, to_forward, took, voter_history}
 use Rattle.batcher_validator.proofs.Words.{window_by, AreGivenInTurn, IsRaised, MayGain, IsVoting, VoterMeets, VoterStays}
+use Rattle.batcher_validator.proofs.Words.{◌||◌, AreFirstVotesBut, HasSentOnce, is_earlier, resent_from, turn_in}
 use Rattle.batcher_validator.proofs.Intending.{intent_more, still_intent}
 use Rattle.batcher_validator.proofs.Keeping.{first_with, kept_still, kept_with}
 use Rattle.batcher_validator.proofs.Queueing.{leave, put_behind}
+use Rattle.batcher_validator.proofs.Repeating.{or_both, or_false}
 use Rattle.batcher_validator.proofs.Settling.{decided_more}
 
 -- What its voter did gave nothing.
@@ -49,6 +51,18 @@ module _ {D K G C : Type 0} where
   to_forward_more [] past = refl
   to_forward_more (event ∷ more) past = to_forward_more more past
 
+  resent_from_more :
+      (more : VoterHistory D K G C) (past : ValidatorHistory D K G C)
+      → resent_from (only_did more ++ past) ≡ resent_from past
+  resent_from_more [] past = refl
+  resent_from_more (event ∷ more) past = resent_from_more more past
+
+  turn_in_more :
+      (more : VoterHistory D K G C) (past : ValidatorHistory D K G C)
+      → turn_in (only_did more ++ past) ≡ turn_in past
+  turn_in_more [] past = refl
+  turn_in_more (event ∷ more) past = turn_in_more more past
+
   in_turn_more :
       (x : NodeConfig D K G C) (earlier : Conduct D) (more : VoterHistory D K G C)
       (past : ValidatorHistory D K G C)
@@ -81,8 +95,8 @@ abbrev pub Recounts : {S G D L C : Type 0} → ValidatorView S G D L C → Valid
     → (ℕ → ℕ) → Type 1
 Recounts {D = D} old new f =
     new.voter.journal.is_open ≡ true → (old.voter.journal.is_open ≡ true)
-    × ((Was : Subject D → Type 0) (count : ℕ) → AreFirstVotes old Was count
-    → AreFirstVotes new Was (f count))
+    × ((is_exempt : Subject D → Bool) (Was : Subject D → Type 0) (count : ℕ)
+    → AreFirstVotesBut old is_exempt Was count → AreFirstVotesBut new is_exempt Was (f count))
 
 module _ {S D K G C L : Type 0} (x : NodeConfig D K G C) (old new : ValidatorView S G D L C)
     (more : VoterHistory D K G C) (past : ValidatorHistory D K G C) (earlier : Conduct D) where
@@ -124,11 +138,18 @@ module _ {S D K G C L : Type 0} (x : NodeConfig D K G C) (old new : ValidatorVie
               (from_more (λ h. HasAnnouncedFrom h view) (λ h. HasAnnouncedFrom h view)
               (λ event h. ((λ was. was), (λ was. was))) more past was);
         };
-        votes = λ opened. rw (given) (still (λ h s. HasSent h s) (λ event h s. ((λ was. was), (λ was. was)))
+        votes = λ opened. rw (given) (still (λ s. false) (λ h s. HasSentOnce h s) (λ event h s. ((λ was. was), (λ was. was)))
             f old.given.tally.sent opened recounts (is.votes (recounts opened).0));
-        begins = λ opened. rw (given) (still (λ h s. HadVoted earlier h s) (λ event h s. ((λ was. was), (λ was. was)))
+        votes_again = λ opened. rw (given) (still (is_earlier old.given.resending.from) (λ h s. HasSent h s)
+            (λ event h s. ((λ was. was), (λ was. was)))
+            f old.given.tally.resent opened recounts (is.votes_again (recounts opened).0));
+        resends = rw (given) (
+          resent_from_more more past ∙ is.resends.0,
+          turn_in_more more past ∙ is.resends.1,
+        );
+        begins = λ opened. rw (given) (still (λ s. false) (λ h s. HadVoted earlier h s) (λ event h s. ((λ was. was), (λ was. was)))
             f old.given.tally.begun opened recounts (is.begins (recounts opened).0));
-        casts = λ opened. rw (given) (still (λ h s. HasRecast h s) (λ event h s. ((λ was. was), (λ was. was)))
+        casts = λ opened. rw (given) (still (λ s. false) (λ h s. HasRecast h s) (λ event h s. ((λ was. was), (λ was. was)))
             f old.given.tally.recast opened recounts (is.casts (recounts opened).0));
         kept = kept;
         certificates = first_more kind_and_round (is_before_view (window_by After).finalized)
@@ -152,65 +173,75 @@ module _ {S D K G C L : Type 0} (x : NodeConfig D K G C) (old new : ValidatorVie
     where
       -- of a history with more
       still :
-          (Was : ValidatorHistory D K G C → Subject D → Type 0)
+          (is_exempt : Subject D → Bool) (Was : ValidatorHistory D K G C → Subject D → Type 0)
           → ((event : VoterEvent D K G C) (h : ValidatorHistory D K G C) (s : Subject D)
           → (Was h s → Was (did event ∷ h) s) × (Was (did event ∷ h) s → Was h s))
           → (g : ℕ → ℕ) (count : ℕ) → new.voter.journal.is_open ≡ true → Recounts old new g
-          → AreFirstVotes old (λ s. Was past s) count
-          → AreFirstVotes new (λ s. Was After s) (g count)
-      still Was same g count opened recounts are =
-          first_more subject_of (is_over_for new.voter.journal.contents.floor)
+          → AreFirstVotesBut old is_exempt (λ s. Was past s) count
+          → AreFirstVotesBut new is_exempt (λ s. Was After s) (g count)
+      still is_exempt Was same g count opened recounts are =
+          first_more subject_of (λ s. is_exempt s || is_over_for new.voter.journal.contents.floor s)
           (λ s. Was past s) (λ s. Was After s) new.voter.journal.contents.votes (g count)
           (λ s. to_more (λ h. Was h s) (λ h. Was h s) (λ event h. same event h s) more past)
           (λ s. from_more (λ h. Was h s) (λ h. Was h s) (λ event h. same event h s) more past)
-          ((recounts opened).1 (λ s. Was past s) count are)
+          ((recounts opened).1 is_exempt (λ s. Was past s) count are)
 
 -- Votes that were sent, as a journal has them that writes nothing, or one more vote, or raises its floor.
-module _ {G D L : Type 0} (WasSent : Subject D → Type 0) (old new : JournalView G D L) (sent : ℕ) where
+module _ {G D L : Type 0} (is_exempt : Subject D → Bool) (WasSent : Subject D → Type 0)
+    (old new : JournalView G D L) (sent : ℕ) where
+  -- whether it doesn't matter that it was, with this floor
+  abbrev is_out : Round → Subject D → Bool
+  is_out floor s = is_exempt s || is_over_for floor s
+
   abbrev OldSent : Type 0
-  OldSent = AreFirst subject_of (is_over_for old.contents.floor) WasSent old.contents.votes sent
+  OldSent = AreFirst subject_of (is_out old.contents.floor) WasSent old.contents.votes sent
 
   pub sent_still :
       new.contents ≡ old.contents → OldSent
-      → AreFirst subject_of (is_over_for new.contents.floor) WasSent new.contents.votes sent
+      → AreFirst subject_of (is_out new.contents.floor) WasSent new.contents.votes sent
   sent_still contents are =
-      subst (λ it. AreFirst subject_of (is_over_for it.floor) WasSent it.votes sent) (sym contents) are
+      subst (λ it. AreFirst subject_of (is_out it.floor) WasSent it.votes sent) (sym contents) are
 
   pub sent_gained :
       (vote : Vote G D) → MayGain vote old new → new.is_open ≡ true → (old.is_open ≡ true → OldSent)
-      → AreFirst subject_of (is_over_for new.contents.floor) WasSent new.contents.votes sent
+      → AreFirst subject_of (is_out new.contents.floor) WasSent new.contents.votes sent
   sent_gained vote gains opened are = of_cases (gains opened).1.1 (are (gains opened).0)
     where
       of_cases :
           (new.contents.votes ≡ old.contents.votes)
           ⊎ (new.contents.votes ≡ old.contents.votes ++ vote ∷ [])
           → OldSent
-          → AreFirst subject_of (is_over_for new.contents.floor) WasSent new.contents.votes sent
+          → AreFirst subject_of (is_out new.contents.floor) WasSent new.contents.votes sent
       of_cases (inl same) has =
-          subst (λ vs. AreFirst subject_of (is_over_for new.contents.floor) WasSent vs sent) (sym same)
-          (subst (λ f. AreFirst subject_of (is_over_for f) WasSent old.contents.votes sent)
+          subst (λ vs. AreFirst subject_of (is_out new.contents.floor) WasSent vs sent) (sym same)
+          (subst (λ f. AreFirst subject_of (is_out f) WasSent old.contents.votes sent)
           (sym (gains opened).1.0) has)
       of_cases (inr one) has =
-          subst (λ vs. AreFirst subject_of (is_over_for new.contents.floor) WasSent vs sent) (sym one)
-          (subst (λ f. AreFirst subject_of (is_over_for f) WasSent (old.contents.votes ++ vote ∷ []) sent)
+          subst (λ vs. AreFirst subject_of (is_out new.contents.floor) WasSent vs sent) (sym one)
+          (subst (λ f. AreFirst subject_of (is_out f) WasSent (old.contents.votes ++ vote ∷ []) sent)
           (sym (gains opened).1.0)
-          (put_behind subject_of (is_over_for old.contents.floor) WasSent old.contents.votes sent has (vote ∷ [])))
+          (put_behind subject_of (is_out old.contents.floor) WasSent old.contents.votes sent has (vote ∷ [])))
 
   pub sent_raised :
       (floor : Round) → IsRaised floor old new → OldSent
-      → AreFirst subject_of (is_over_for new.contents.floor) WasSent new.contents.votes
+      → AreFirst subject_of (is_out new.contents.floor) WasSent new.contents.votes
       (count_by (λ vote. not (is_over floor vote)) (take sent old.contents.votes))
   sent_raised floor raised are =
-      subst (λ vs. AreFirst subject_of (is_over_for new.contents.floor) WasSent vs left) (sym raised.votes)
-      (subst (λ f. AreFirst subject_of (is_over_for f) WasSent
+      subst (λ vs. AreFirst subject_of (is_out new.contents.floor) WasSent vs left) (sym raised.votes)
+      (subst (λ f. AreFirst subject_of (is_out f) WasSent
       (filter (λ vote. not (is_over floor vote)) old.contents.votes) left) (sym raised.floor_is)
-      (leave subject_of (is_over_for old.contents.floor) WasSent old.contents.votes sent are
-      (is_over_for floor) (λ vote. not (is_over floor vote))
-      (λ s above. was_above s above (is_below old.contents.floor (round_in s)) refl)
-      (λ vote above. ap not above)))
+      (leave subject_of (is_out old.contents.floor) WasSent old.contents.votes sent are
+      (is_out floor) (λ vote. not (is_over floor vote))
+      (λ s above. or_both (is_exempt s) (is_over_for old.contents.floor s) (parts floor s above).0
+      (was_above s (parts floor s above).1 (is_below old.contents.floor (round_in s)) refl))
+      (λ vote above. ap not (parts floor (subject_of vote) above).1)))
     where
       left : ℕ
       left = count_by (λ vote. not (is_over floor vote)) (take sent old.contents.votes)
+
+      parts : (f : Round) (s : Subject D) → is_out f s ≡ false
+          → (is_exempt s ≡ false) × (is_over_for f s ≡ false)
+      parts f s above = or_false (is_exempt s) (is_over_for f s) above
 
       wrong : true ≡ false → ⊥
       wrong e = absurd cc
@@ -249,7 +280,7 @@ module _ {S D K G C L : Type 0} (x : NodeConfig D K G C) (old new : ValidatorVie
   pub recounts_still : Recounts old new (λ n. n)
   recounts_still still = (
     sym is_open ∙ still,
-    λ Was count are. sent_still Was old.voter.journal new.voter.journal count contents are,
+    λ is_exempt Was count are. sent_still is_exempt Was old.voter.journal new.voter.journal count contents are,
   )
 
   module _ (shelf : new.shelf.certificates ≡ old.shelf.certificates)
@@ -361,6 +392,8 @@ module _ {S D K G C L : Type 0} (x : NodeConfig D K G C) (old roomy : ValidatorV
         calms = rw (given) (λ wrong. absurd (never_calm wrong));
         finals = rw (given) is.finals;
         votes = rw (voter, given) is.votes;
+        votes_again = rw (voter, given) is.votes_again;
+        resends = rw (given) is.resends;
         begins = rw (voter, given) is.begins;
         casts = rw (voter, given) is.casts;
         kept = rw (certificates) is.kept;
@@ -469,6 +502,8 @@ module _ {S D K G C L : Type 0} (x : NodeConfig D K G C) (old mid new : Validato
           calms = learned_here.calms;
           finals = learned_here.finals;
           votes = learned_here.votes;
+          votes_again = learned_here.votes_again;
+          resends = learned_here.resends;
           begins = learned_here.begins;
           casts = learned_here.casts;
           kept = kept_still x Verified (took c ∷ Verified) refl new.shelf.certificates had

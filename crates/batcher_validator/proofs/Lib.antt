@@ -1,5 +1,7 @@
 pub mod Words
 pub mod Queueing
+pub mod Parting
+pub mod Repeating
 pub mod Reading
 pub mod Lending
 pub mod Keeping
@@ -11,10 +13,12 @@ pub mod Signing
 pub mod Blocking
 pub mod Beginning
 pub mod Forwarding
+pub mod Returning
 pub mod Learning
 pub mod Giving
 pub mod Finalizing
 pub mod Certifying
+pub mod Catching
 pub mod Refusing
 pub mod Choosing
 pub mod Deciding

@@ -4,7 +4,7 @@ use Rattle.batcher_validator.proofs.Words.{◌≡◌, ◌⊎◌, ◌+◌, ◌<�
 use Rattle.batcher_validator.proofs.Words.{inl, inr, length, refl, subst, sym, take, Contains, count_by, filter, slice_get, take-append_seam, take-suc}
 use Rattle.batcher_validator.proofs.Words.{length-append, take-append-drop, take-append-le, All-contains, All-contains_itself, All-filter}
 use Rattle.batcher_validator.proofs.Words.{Contains-append_cases, Contains-append_left, Contains-append_right, length-filter, get_or_from_slice_get}
-use Rattle.batcher_validator.proofs.Words.{slice_get_within, contains_filter, AreDistinct, AreFirst, HasKey}
+use Rattle.batcher_validator.proofs.Words.{slice_get_within, contains_filter, unwrap_or, AreDistinct, AreFirst, HasKey}
 
 module _ {X : Type 0} where
   -- the first elements and the one behind them
@@ -56,6 +56,44 @@ module _ {X : Type 0} where
     pub left_are : (xs : List X) (x : X) → Contains (filter p xs) x → Contains xs x
     left_are xs x there =
         All-contains (Contains xs) (filter p xs) x (All-filter p (Contains xs) xs (All-contains_itself xs)) there
+
+-- the one at a place is among the first, of which there are more
+pub contained_first :
+    {X : Type 0} (xs : List X) (i n : ℕ) (x : X) → slice_get xs i ≡ Some x → i < n
+    → Contains (take n xs) x
+contained_first [] i n x there lt = absurd cc
+contained_first (y ∷ ys) zero zero x there lt = absurd (omega (arith, lt))
+contained_first (y ∷ ys) zero (suc n) x there lt =
+    (0, omega arith, ap (λ o. unwrap_or o x) there)
+contained_first (y ∷ ys) (suc i) zero x there lt = absurd (omega (arith, lt))
+contained_first (y ∷ ys) (suc i) (suc n) x there lt =
+    let it = contained_first ys i n x there (omega (arith, lt)) in
+    (suc it.0, omega (arith, it.1), it.2)
+
+-- the first ones are among the first, of which there are no fewer
+pub contained_more :
+    {X : Type 0} (xs : List X) (n m : ℕ) (x : X) → n ≤ m → Contains (take n xs) x
+    → Contains (take m xs) x
+contained_more [] zero m x le there = absurd (omega (arith, there.1))
+contained_more [] (suc n) m x le there = absurd (omega (arith, there.1))
+contained_more (y ∷ ys) zero m x le there = absurd (omega (arith, there.1))
+contained_more (y ∷ ys) (suc n) zero x le there = absurd (omega (arith, le))
+contained_more (y ∷ ys) (suc n) (suc m) x le (zero, lt, is) = (0, omega arith, is)
+contained_more (y ∷ ys) (suc n) (suc m) x le (suc k, lt, is) =
+    let it = contained_more ys n m x (omega (arith, le)) (k, omega (arith, lt), is) in
+    (suc it.0, omega (arith, it.1), it.2)
+
+-- one of the first is at one of the first places
+pub at_place :
+    {X : Type 0} (xs : List X) (n : ℕ) (x : X) → Contains (take n xs) x
+    → (i : ℕ) × ((i < n) × (slice_get xs i ≡ Some x))
+at_place [] zero x there = absurd (omega (arith, there.1))
+at_place [] (suc n) x there = absurd (omega (arith, there.1))
+at_place (y ∷ ys) zero x there = absurd (omega (arith, there.1))
+at_place (y ∷ ys) (suc n) x (zero, lt, is) = (0, (omega arith, ap Some is))
+at_place (y ∷ ys) (suc n) x (suc k, lt, is) =
+    let it = at_place ys n x (k, omega (arith, lt), is) in
+    (suc it.0, (omega (arith, it.1.0), it.1.1))
 
 pub key_is : {A B : Type 0} (a b : A) (x y : B) → a ≡ b → x ≡ y
     → ◌≡◌ {A = A × B} (a, x) (b, y)

@@ -22,7 +22,7 @@ module _ {S D K G C L : Type 0} (x : NodeConfig D K G C) (old new : ValidatorVie
       goes_on x old new more past earlier (λ n. n) is voting
       (λ still. (
         (gains still).0,
-        λ Was count are. sent_gained Was old.voter.journal new.voter.journal count vote gains still (λ opened. are),
+        λ is_exempt Was count are. sent_gained is_exempt Was old.voter.journal new.voter.journal count vote gains still (λ opened. are),
       ))
       (λ yes. (yes, λ i. quiet i))
       given

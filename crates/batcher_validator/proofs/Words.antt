@@ -7,12 +7,15 @@ pub use Rattle.std.proofs.lemmas.List.{take_all, length-append, take-append-drop
 pub use Rattle.std.proofs.lemmas.List.Elements.{recursion_from_All, All-contains, Contains-append_cases, Contains-append_left, Contains-append_right}
 pub use Rattle.std.proofs.lemmas.List.Elements.{filter_passes, All-contains_itself, All-filter}
 pub use Rattle.std.proofs.lemmas.List.Folds.{Any-from_list_any, list_any_at}
+pub use Rattle.std.proofs.lemmas.List.Edits.{Swapped, swapped_from_swap, length-swap}
+pub use Rattle.std.proofs.lemmas.List.Sorted.{Contains-permutation, IsPermutation-keeps, IsPermutation-swap, IsPermutation-sym}
+pub use Rattle.std.proofs.lemmas.List.Sorted.{IsPermutation-trans, length_permutation}
 pub use Rattle.std.proofs.lemmas.List.Sums.{sum_by-cons, length-filter}
 pub use Rattle.std.proofs.lemmas.Option.{get_or_from_slice_get, slice_get_within, slice_get-get_or}
-pub use Rattle.std.specs.List.{slice_get, count_by, filter, list_any}
+pub use Rattle.std.specs.List.{slice_get, count_by, filter, list_any, swap}
 pub use Rattle.std.specs.Option.{option_map, option_or}
 pub use Rattle.std.specs.Prelude.{◌≡◌, ◌++◌, ℕ, zero, suc, Bool, true, false, List, [], ◌∷◌, Some, None, length, replicate, take, Contains, unwrap_or, ◌⊎◌, ◌<◌}
-pub use Rattle.std.specs.Prelude.{◌-◌}
+pub use Rattle.std.specs.Prelude.{◌-◌, ◌*◌, ◌||◌, IsPermutation, min, nat_le}
 pub use Rattle.std.specs.Prelude.{Option, cond, set, is_some, ◌≤◌, All, IfSome, option_and_then, max, ◌+◌, not, ◌≢◌, ◌^◌, MatchBool, MatchOption, ◌&&◌, drop}
 pub use Rattle.std.specs.Prelude.{Ok}
 pub use Rattle.std.specs.declared.cmp.Ordering.{Ordering}
@@ -62,15 +65,17 @@ pub use Rattle.batcher_journal.specs.Records.{Certified}
 pub use Rattle.batcher_journal.specs.Text.{Contents, fields_of}
 pub use Rattle.batcher_node.proofs.Lowest.{one_next}
 pub use Rattle.batcher_node.specs.Events.{started, cause_by, is_peer, vote_came, NodeEvent, NodeHistory, certificate_came, constructed, cause_in}
-pub use Rattle.batcher_node.specs.Events.{view_finalized, view_history, window_after, vote_cast, view_entered}
+pub use Rattle.batcher_node.specs.Events.{forgery_came, peer_in, view_finalized, view_history, window_after, vote_cast, view_entered}
 pub use Rattle.batcher_node.specs.Nodes.{NodeConfig, NodeView, SameNode, node_config, IsAtRest, cause_at, slot_at, IsNext, IsLedByAnother}
-pub use Rattle.batcher_node.specs.Represents.{NodeRepresents, ViewRepresents, is_to_be_tried}
+pub use Rattle.batcher_node.specs.Represents.{NodeRepresents, ViewRepresents, ahead_answer, ahead_answer_of, is_to_be_tried}
 pub use Rattle.batcher_node.specs.Sending.{HoldsCertified}
 pub use Rattle.batcher_node.specs.Verdicts.{LooksAtKindThere, LooksAtThere}
-pub use Rattle.batcher_node.specs.Windows.{is_of, numbered}
+pub use Rattle.batcher_node.specs.Windows.{is_ahead, is_of, numbered}
 pub use Rattle.batcher_node.specs.declared.answers.Cast.TheVariants.{ToSend, Known as KnownVote, Outside as OutsideVote}
 pub use Rattle.batcher_node.specs.declared.answers.Cause.{Cause}
 pub use Rattle.batcher_node.specs.declared.answers.Cause.TheVariants.{Vote as ForVote}
+pub use Rattle.batcher_node.specs.declared.answers.Ahead.{Ahead}
+pub use Rattle.batcher_node.specs.declared.answers.Ahead.TheVariants.{Certified as CertifiedAhead, Forged as ForgedAhead}
 pub use Rattle.batcher_node.specs.declared.answers.Receipt.{Receipt}
 pub use Rattle.batcher_node.specs.declared.answers.Receipt.TheVariants.{Answered, Dropped, Outside, Unknown}
 pub use Rattle.batcher_node.specs.declared.answers.Verdict.{Verdict}
@@ -84,17 +89,24 @@ pub use Rattle.batcher_validator.specs.Ending.{IsPreferred, GivesOnAndOn, HasLes
 pub use Rattle.batcher_validator.specs.Histories.{began, only_took, HasBlocked, ValidatorHistory, gave, chose, expired, later_of, conduct_in, voter_history}
 pub use Rattle.batcher_validator.specs.Histories.{window_by, calls_in, HasHad, HasHanded, did, HasForwarded, again, forward_with, to_forward, HadVoted}
 pub use Rattle.batcher_validator.specs.Histories.{HasAnnouncedFrom, HasAskedFrom, HasRecast, HasSent, IsVerifying, answered, ValidatorEvent, only_did, took}
-pub use Rattle.batcher_validator.specs.Histories.{chosen_in, expired_in, last_to_sign, me_in, posed_in, refused, unsigned_in}
+pub use Rattle.batcher_validator.specs.Histories.{chosen_in, expired_in, last_to_sign, me_in, posed_in, refused, unsigned_in, HasSentOnce, resent_from, turn_in}
 pub use Rattle.batcher_validator.specs.Posing.{CannotSign, CannotVote, IsNotToSign, Grounds, HasCast, HasNotCast, IsNotToPropose}
 pub use Rattle.batcher_validator.specs.Decisions.{AreDecided, HasDecided}
-pub use Rattle.batcher_validator.specs.Queues.{AreFirst, AreDistinct, HasKey}
+pub use Rattle.batcher_validator.specs.Posing.{IsPlaceToSend, SendsNone}
+pub use Rattle.batcher_validator.specs.Queues.{AreFirst, AreDistinct, AreParted, HasKey}
+pub use Rattle.batcher_validator.specs.Resending.{is_again, is_again_above, is_earlier, is_sent_again, still_to_forward, turn_at, below_turn, IsPlaceFrom}
+pub use Rattle.batcher_validator.specs.Resending.{is_due_again, is_finalization_of}
+pub use Rattle.batcher_validator.specs.Returning.{agains, StaysFinal}
 pub use Rattle.batcher_validator.specs.Recalling.{Recalls, IsAtPlace}
 pub use Rattle.batcher_validator.specs.Running.{HasBegun, HasCertificate, IsRunning, ValidatorView, is_over_for, AreBlocked, blocks_sender, IntentView}
 pub use Rattle.batcher_validator.specs.Running.{ForEachRun, Gives, GivenView, RunStays, WhyNotFinal, tally_from, left_of, AreKept, RunMeets, is_before_view}
-pub use Rattle.batcher_validator.specs.Running.{AreFirstVotes, HasConstructed, tallied, IsIntent, AreBytesOf, RunCasts, RunMayWrite, RunWrites, RunTakes}
+pub use Rattle.batcher_validator.specs.Running.{AreFirstVotes, AreFirstVotesBut, HasConstructed, tallied, IsIntent, AreBytesOf}
+pub use Rattle.batcher_validator.specs.Running.{RunCasts, RunMayWrite, RunWrites, RunTakes}
+pub use Rattle.batcher_validator.specs.Shelves.{PutsBehind, ShelfView, last_of}
 pub use Rattle.batcher_validator.specs.Shelves.{AreShelved, IsFinalAt, is_from, HaveNoFinal, IsAt, kind_and_round, Shelves, IsLookedAt, ShelvesOne}
+pub use Rattle.batcher_validator.specs.Shelves.{IsLowestFinal}
 pub use Rattle.batcher_validator.specs.Tasks.{MayGive, IsContested, MaySign, MayVote, AreGivenInTurn, Counts, HasEntered, IsNextIn, NobodyIsToBlock}
-pub use Rattle.batcher_validator.specs.Tasks.{NothingIsDue, NothingIsDueMeanwhile}
+pub use Rattle.batcher_validator.specs.Tasks.{NothingIsDue, NothingIsDueMeanwhile, IsNextFinal}
 pub use Rattle.batcher_validator.specs.Tasks.{NothingIsProposed, NothingIsToSign, IsOpen}
 pub use Rattle.batcher_validator.specs.Unsigned.{nothing_unsigned, with_refused}
 pub use Rattle.batcher_validator.specs.declared.decided.Decided.{Decided}

@@ -33,18 +33,19 @@ module _ {S G D L C : Type 0} (validator : ValidatorView S G D L C) where
       count_by (is_final_after validator.given.announced) validator.shelf.certificates
 
   -- How much else may be left, but for a vote that is to be signed: participants to be blocked, the
-  -- next view, own votes to be cast again and to be sent, certificates, each with what may be
-  -- forwarded, a proposal to be made or to be judged, and votes to be verified.
+  -- next view, own votes to be cast again, to be sent, and to be sent again, certificates, each
+  -- with what may be forwarded, a proposal to be made or to be judged, and votes to be verified.
   abbrev pub others_left : ℕ
   others_left =
       count_by not validator.given.blocked
       + ((validator.voter.knowledge.highest + 1 - validator.given.asked)
       + ((validator.given.tally.begun - validator.given.tally.recast)
       + ((length validator.voter.journal.contents.votes - validator.given.tally.sent)
+      + ((validator.given.tally.sent - validator.given.tally.resent)
       + (2 * (length validator.shelf.certificates - validator.shelf.handed)
       + (cond (is_some validator.given.forwarding) 1 0
       + ((validator.voter.node.window.current - validator.given.intent.posed)
-      + cond validator.given.verifying 0 1))))))
+      + cond validator.given.verifying 0 1)))))))
 
 module _ {S D K G C L : Type 0} (x : NodeConfig D K G C) where
   -- What was given to be signed, last of all, may still be signed. Meanwhile nothing else is

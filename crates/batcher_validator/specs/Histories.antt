@@ -1,6 +1,6 @@
 -- What happens to a validator: what its voter does, what it gives to be done, and the answers.
-use Rattle.std.specs.Prelude.{◌≡◌, ◌≤◌, ◌⊎◌, ⊤, ℕ, cond, List, [], ◌∷◌, ◌++◌, Option, Some, None}
-use Rattle.std.specs.Prelude.{max, nat_lt}
+use Rattle.std.specs.Prelude.{◌≡◌, ◌≤◌, ◌⊎◌, ◌+◌, ⊤, ℕ, cond, false, List, [], ◌∷◌, ◌++◌, Option}
+use Rattle.std.specs.Prelude.{Some, None, max, nat_lt}
 use Rattle.batcher.specs.Selection.{leader_of, selected_proposal}
 use Rattle.batcher.specs.Votes.{subject_of}
 use Rattle.batcher.specs.messages.Certificate.{Certificate}
@@ -10,13 +10,14 @@ use Rattle.batcher.specs.messages.Proposal.{Proposal}
 use Rattle.batcher.specs.messages.Subject.{Subject}
 use Rattle.batcher.specs.positions.Participant.{Participant}
 use Rattle.batcher.specs.positions.Round.{Round}
-use Rattle.batcher_agreement.specs.Lives.{VoterEvent, VoterHistory, conduct_of, held_by}
+use Rattle.batcher_agreement.specs.Lives.{VoterEvent, VoterHistory, called, conduct_of, held_by}
 use Rattle.batcher_agreement.specs.Lives.{node_history, verified}
 use Rattle.batcher_agreement.specs.Policy.{Conduct, HasVoted}
-use Rattle.batcher_node.specs.Events.{NodeHistory, view_history, window_in}
+use Rattle.batcher_node.specs.Events.{NodeHistory, view_finalized, view_history, window_in}
 use Rattle.batcher_node.specs.Nodes.{NodeConfig}
 use Rattle.batcher_node.specs.Represents.{config_of}
 use Rattle.batcher_node.specs.declared.window.Window.{Window}
+use Rattle.batcher_validator.specs.Resending.{is_again, is_sent_again, still_to_forward, turn_at}
 use Rattle.batcher_validator.specs.Unsigned.{nothing_unsigned, with_refused}
 use Rattle.batcher_validator.specs.declared.task.Task.{Task}
 use Rattle.batcher_validator.specs.declared.task.Task.TheVariants.{Block, Cast, Enter, Final}
@@ -42,7 +43,7 @@ pub data ValidatorEvent (D K G C : Type 0) : Type 0 where
   expired : ℕ → ValidatorEvent D K G C
   -- the signature of this, which was to be signed, isn't good
   refused : Subject D → ValidatorEvent D K G C
-  -- what was sent may be lost, so it is to be sent again
+  -- what was sent may be lost, so a part of it is to be sent again
   again : ValidatorEvent D K G C
 
 -- all that happened in a life, the newest first
@@ -85,6 +86,12 @@ module _ {D K G C : Type 0} where
   before_in (began me before ∷ past) = before
   before_in (event ∷ past) = before_in past
 
+  -- what happened before a view was made the final one, last of all
+  abbrev pub before_final : ValidatorHistory D K G C → ValidatorHistory D K G C
+  before_final [] = []
+  before_final (did (called (view_finalized view)) ∷ past) = past
+  before_final (event ∷ past) = before_final past
+
   -- its participant had voted for the subject by then, in an earlier life
   abbrev pub HadVoted : Conduct D → ValidatorHistory D K G C → Subject D → Type 0
   HadVoted earlier past s = HasVoted (conduct_of (before_in past) ++ earlier) s
@@ -120,17 +127,36 @@ module _ {D K G C : Type 0} where
       (view ≤ p.round.view.0) ⊎ HasAnnouncedFrom past view
   HasAnnouncedFrom (event ∷ past) view = HasAnnouncedFrom past view
 
-  -- it gave a vote for the subject to be sent, since all was to be sent again
+  -- whose turn it is when what was sent is to be sent again
+  abbrev pub turn_in : ValidatorHistory D K G C → ℕ
+  turn_in [] = 0
+  turn_in (again ∷ past) = turn_at (window_by past) (turn_in past) + 1
+  turn_in (event ∷ past) = turn_in past
+
+  -- the view from which on own votes were to be sent again, or 0
+  abbrev pub resent_from : ValidatorHistory D K G C → ℕ
+  resent_from [] = 0
+  resent_from (again ∷ past) = (window_by past).current
+  resent_from (event ∷ past) = resent_from past
+
+  -- it gave a vote for the subject to be sent
+  abbrev pub HasSentOnce : ValidatorHistory D K G C → Subject D → Type 0
+  HasSentOnce [] s = ⊥
+  HasSentOnce (gave (SendVote vote) ∷ past) s = (subject_of vote ≡ s) ⊎ HasSentOnce past s
+  HasSentOnce (event ∷ past) s = HasSentOnce past s
+
+  -- and once more, if it was to be sent again
   abbrev pub HasSent : ValidatorHistory D K G C → Subject D → Type 0
   HasSent [] s = ⊥
-  HasSent (again ∷ past) s = ⊥
+  HasSent (again ∷ past) s = (is_sent_again (window_by past) s ≡ false) × HasSentOnce past s
   HasSent (gave (SendVote vote) ∷ past) s = (subject_of vote ≡ s) ⊎ HasSent past s
   HasSent (event ∷ past) s = HasSent past s
 
-  -- and it gave a certificate of the kind and the round
+  -- it gave a certificate of the kind and the round, and once more, if it was to be given again
   abbrev pub HasHanded : ValidatorHistory D K G C → (Kind × Round) → Type 0
   HasHanded [] key = ⊥
-  HasHanded (again ∷ past) key = ⊥
+  HasHanded (again ∷ past) key =
+      (is_again (window_by past) (turn_in past) key ≡ false) × HasHanded past key
   HasHanded (gave (SendCertificate kind number) ∷ past) key =
       ((kind, number) ≡ key) ⊎ HasHanded past key
   HasHanded (event ∷ past) key = HasHanded past key
@@ -138,16 +164,20 @@ module _ {D K G C : Type 0} where
   -- the round of the notarization that it gave to be sent, of which nothing was forwarded since
   abbrev pub to_forward : ValidatorHistory D K G C → Option Round
   to_forward [] = None
-  to_forward (again ∷ past) = None
+  to_forward (again ∷ past) =
+      still_to_forward (window_by past) (turn_in past) (to_forward past)
   to_forward (gave (SendCertificate kind number) ∷ past) =
       forward_with kind number (to_forward past)
   to_forward (gave (Forward number) ∷ past) = None
   to_forward (event ∷ past) = to_forward past
 
-  -- it gave what is notarized in a round to be forwarded, since all was to be sent again
+  -- It gave what is notarized in a round to be forwarded, and once more, if its notarization was to
+  -- be given again.
   abbrev pub HasForwarded : ValidatorHistory D K G C → Round → Type 0
   HasForwarded [] number = ⊥
-  HasForwarded (again ∷ past) number = ⊥
+  HasForwarded (again ∷ past) number =
+      (is_again (window_by past) (turn_in past) (Notarization, number) ≡ false)
+      × HasForwarded past number
   HasForwarded (gave (Forward other) ∷ past) number = (other ≡ number) ⊎ HasForwarded past number
   HasForwarded (event ∷ past) number = HasForwarded past number
 
@@ -176,14 +206,14 @@ module _ {D K G C : Type 0} where
   me_in (began me before ∷ past) = Some me
   me_in (event ∷ past) = me_in past
 
-  -- what it gave to be signed, last of all, since all was to be sent again
+  -- what it gave to be signed, last of all, since what was sent was to be again
   abbrev pub last_to_sign : ValidatorHistory D K G C → Option (Subject D)
   last_to_sign [] = None
   last_to_sign (again ∷ past) = None
   last_to_sign (gave (Sign s) ∷ past) = Some s
   last_to_sign (event ∷ past) = last_to_sign past
 
-  -- which signatures were refused, since all was to be sent again
+  -- which signatures were refused, since what was sent was to be again
   abbrev pub unsigned_in : ValidatorHistory D K G C → Unsigned
   unsigned_in [] = nothing_unsigned
   unsigned_in (again ∷ past) = nothing_unsigned

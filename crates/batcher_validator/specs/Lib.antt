@@ -1,5 +1,7 @@
 pub mod Unsigned
+pub mod Resending
 pub mod Histories
+pub mod Returning
 pub mod Tasks
 pub mod Queues
 pub mod Decisions
@@ -9,3 +11,4 @@ pub mod Posing
 pub mod Recalling
 pub mod Ending
 pub mod Disks
+pub mod Unstarted

@@ -13,6 +13,7 @@ use Rattle.batcher_node.specs.Nodes.{NodeConfig, NodeView, cause_at}
 use Rattle.batcher_node.specs.Windows.{numbered}
 use Rattle.batcher_validator.specs.Histories.{Leads, ValidatorHistory, conduct_in, leader_in}
 use Rattle.batcher_validator.specs.Histories.{proposal_by, voter_history, window_by}
+use Rattle.batcher_validator.specs.Resending.{IsPlaceFrom}
 use Rattle.batcher_validator.specs.Running.{ForEachRun, ValidatorView}
 use Rattle.batcher_validator.specs.Tasks.{SignsNoMore, HasVotedIn, IsContested, IsOpen, IsSigning}
 use Rattle.batcher_validator.specs.Tasks.{IsWanted, MaySign, MayVote}
@@ -30,6 +31,18 @@ module _ {S D G C L : Type 0} (validator : ValidatorView S G D L C) where
   CastsNone =
       (validator.given.tally.begun ≤ validator.given.tally.recast)
       ⊎ (slice_get validator.voter.journal.contents.votes validator.given.tally.recast ≡ None)
+
+  -- at this place is the next vote that is to be sent, or none
+  abbrev pub IsPlaceToSend : ℕ → Type 0
+  IsPlaceToSend place =
+      IsPlaceFrom validator.given.resending.from validator.voter.journal.contents.votes
+      validator.given.tally.resent validator.given.tally.sent place
+
+  -- all votes that are to be sent were given to be
+  pub record SendsNone : Type 0 where
+    pub place : ℕ
+    pub is_next : IsPlaceToSend place
+    pub none : slice_get validator.voter.journal.contents.votes place ≡ None
 
 module _ {S D K G C L : Type 0} (config : NodeView S G D → NodeConfig D K G C)
     (validator : ValidatorView S G D L C) where

@@ -1,5 +1,14 @@
 -- Items of which the first were given to be sent.
-use Rattle.std.specs.Prelude.{◌≡◌, ◌≤◌, ⊤, ℕ, Bool, false, List, [], ◌∷◌, Contains, length, take}
+use Rattle.std.specs.Prelude.{◌≡◌, ◌<◌, ◌≤◌, ⊤, ℕ, Bool, true, false, List, [], ◌∷◌, Contains}
+use Rattle.std.specs.Prelude.{get_or, length, take}
+
+-- Of the items up to an end the first ones aren't to be behind, and the others are.
+pub record AreParted {X : Type 0} (is_behind : X → Bool) (items : List X) (end count : ℕ) : Type 0
+  where
+    pub within : count ≤ end
+    pub stay : (i : ℕ) (x : X) → i < count → is_behind (get_or items i x) ≡ false
+    pub others :
+        (i : ℕ) (x : X) → count ≤ i → i < end → is_behind (get_or items i x) ≡ true
 
 module _ {X Y : Type 0} (key : X → Y) where
   -- an item of this key

@@ -1,7 +1,7 @@
 -- A validator: a voter, with what it gave to be done.
 use Rattle.std.specs.Prelude.{◌≡◌, ◌≢◌, ◌<◌, ◌≤◌, ◌⊎◌, ⊤, ℕ, Bool, true, false, List, [], ◌∷◌, ◌++◌}
-use Rattle.std.specs.Prelude.{Contains, MatchBool, Option, Some, None, Ok, is_some, nat_lt, not}
-use Rattle.std.specs.Prelude.{take}
+use Rattle.std.specs.Prelude.{◌||◌, Contains, MatchBool, Option, Some, None, Ok, is_some, nat_lt}
+use Rattle.std.specs.Prelude.{not, take}
 use Rattle.std.specs.List.{count_by, slice_get}
 use Rattle.batcher.specs.Verifiers.{certifies_itself}
 use Rattle.batcher.specs.Votes.{kind_certified, round_in, subject_certified, subject_of}
@@ -24,9 +24,13 @@ use Rattle.batcher_journal.specs.Floors.{is_below, is_over}
 use Rattle.batcher_journal.specs.Records.{Certified}
 use Rattle.batcher_journal.specs.Text.{Contents}
 use Rattle.batcher_node.specs.Events.{NodeEvent, constructed, started, view_finalized, vote_cast}
+use Rattle.batcher_node.specs.Events.{forgery_came}
 use Rattle.batcher_node.specs.Nodes.{IsAtRest, NodeConfig}
 use Rattle.batcher_node.specs.declared.node.Construction.{Construction}
 use Rattle.batcher_node.specs.Windows.{is_of}
+use Rattle.batcher_node.specs.declared.answers.Ahead.{Ahead}
+use Rattle.batcher_node.specs.declared.answers.Ahead.TheVariants.{Certified as CertifiedAhead}
+use Rattle.batcher_node.specs.declared.answers.Ahead.TheVariants.{Forged as ForgedAhead}
 use Rattle.batcher_node.specs.declared.answers.Receipt.{Receipt}
 use Rattle.batcher_node.specs.declared.answers.Receipt.TheVariants.{Answered}
 use Rattle.batcher_node.specs.declared.answers.Cast.{Cast}
@@ -36,14 +40,17 @@ use Rattle.batcher_validator.specs.Queues.{AreFirst, HasKey}
 use Rattle.batcher_validator.specs.Decisions.{AreDecided}
 use Rattle.batcher_validator.specs.Shelves.{IsLookedAt, ShelfView, kind_and_round}
 use Rattle.batcher_validator.specs.Histories.{HadVoted, HasAnnouncedFrom, HasAskedFrom, HasBlocked}
-use Rattle.batcher_validator.specs.Histories.{HasHanded, HasRecast, HasSent, IsVerifying}
-use Rattle.batcher_validator.specs.Histories.{ValidatorEvent, ValidatorHistory, answered, began}
+use Rattle.batcher_validator.specs.Histories.{HasHanded, HasRecast, HasSent, HasSentOnce}
+use Rattle.batcher_validator.specs.Histories.{IsVerifying, ValidatorEvent, ValidatorHistory}
+use Rattle.batcher_validator.specs.Histories.{answered, began}
 use Rattle.batcher_validator.specs.Histories.{chosen_in, conduct_in, did, expired_in, gave}
 use Rattle.batcher_validator.specs.Histories.{last_to_sign, me_in, only_did, only_took, posed_in}
-use Rattle.batcher_validator.specs.Histories.{to_forward, took, unsigned_in, voter_history}
-use Rattle.batcher_validator.specs.Histories.{window_by}
+use Rattle.batcher_validator.specs.Histories.{resent_from, to_forward, took, turn_in, unsigned_in}
+use Rattle.batcher_validator.specs.Histories.{voter_history, window_by}
 use Rattle.batcher_validator.specs.Tasks.{AreGivenInTurn, Counts, NobodyIsToBlock}
+use Rattle.batcher_validator.specs.Resending.{is_earlier}
 use Rattle.batcher_validator.specs.declared.decided.Decided.{Decided}
+use Rattle.batcher_validator.specs.declared.resending.Resending.{Resending}
 use Rattle.batcher_validator.specs.declared.tally.Tally.{Tally}
 use Rattle.batcher_validator.specs.declared.task.Task.{Task}
 use Rattle.batcher_validator.specs.declared.task.Task.TheVariants.{Cast as CastAgain, Final}
@@ -59,7 +66,7 @@ use Rattle.batcher_voter.specs.declared.answers.FinalizeFault.TheVariants.{NotOf
 pub record IntentView (D : Type 0) : Type 0 where
   -- as whom it votes
   pub me : Participant
-  -- what was given to be signed, last of all, since all was to be sent again
+  -- what was given to be signed, last of all, since what was sent was to be again
   pub signing : Option (Subject D)
   -- which signatures were refused since then
   pub unsigned : Unsigned
@@ -80,6 +87,8 @@ pub record GivenView (D : Type 0) : Type 0 where
   pub announced : ℕ
   -- how many of the journal's votes were given
   pub tally : Tally
+  -- what was to be sent again, last of all
+  pub resending : Resending
   -- the last view that was given to be entered, or 0
   pub asked : ℕ
   -- whether votes were given to be verified, and there is no answer yet
@@ -100,7 +109,12 @@ pub record ValidatorView (S G D L C : Type 0) : Type 0 where
 -- each number of a tally, changed so
 abbrev pub tallied : (ℕ → ℕ) → Tally → Tally
 tallied f tally =
-    record { begun = f tally.begun; recast = f tally.recast; sent = f tally.sent }
+    record {
+      begun = f tally.begun;
+      recast = f tally.recast;
+      sent = f tally.sent;
+      resent = f tally.resent;
+    }
 
 -- how many of the first votes are of rounds from this one on
 abbrev pub left_of : {G D : Type 0} → Round → List (Vote G D) → ℕ → ℕ
@@ -143,6 +157,14 @@ abbrev pub AreFirstVotes : {S G D L C : Type 0} → ValidatorView S G D L C → 
     → ℕ → Type 0
 AreFirstVotes validator WasGiven count =
     AreFirst subject_of (is_over_for validator.voter.journal.contents.floor) WasGiven
+    validator.voter.journal.contents.votes count
+
+-- The same of those votes for which it isn't said that it doesn't matter.
+abbrev pub AreFirstVotesBut : {S G D L C : Type 0} → ValidatorView S G D L C → (Subject D → Bool)
+    → (Subject D → Type 0) → ℕ → Type 0
+AreFirstVotesBut validator is_exempt WasGiven count =
+    AreFirst subject_of
+    (λ s. is_exempt s || is_over_for validator.voter.journal.contents.floor s) WasGiven
     validator.voter.journal.contents.votes count
 
 -- The certificates that are kept: they certify what they name, are of the epoch and of views from
@@ -214,7 +236,14 @@ module _ {S D K G C L : Type 0} (x : NodeConfig D K G C) where
     pub finals : AreAsked (λ view. HasAnnouncedFrom past view) validator.given.announced
     pub votes :
         validator.voter.journal.is_open ≡ true → AreFirstVotes validator
-        (λ s. HasSent past s) validator.given.tally.sent
+        (λ s. HasSentOnce past s) validator.given.tally.sent
+    pub votes_again :
+        validator.voter.journal.is_open ≡ true → AreFirstVotesBut validator
+        (is_earlier validator.given.resending.from) (λ s. HasSent past s)
+        validator.given.tally.resent
+    pub resends :
+        (resent_from past ≡ validator.given.resending.from)
+        × (turn_in past ≡ validator.given.resending.turn)
     pub begins :
         validator.voter.journal.is_open ≡ true → AreFirstVotes validator
         (λ s. HadVoted earlier past s) validator.given.tally.begun
@@ -263,6 +292,15 @@ module _ {S D K G C L : Type 0} (x : NodeConfig D K G C) where
   abbrev pub RunTakes : Certificate C D → ValidatorView S G D L C → ValidatorView S G D L C → Type 0
   RunTakes c old new =
       ForEachRun old (λ past earlier. IsRunning (took c ∷ did (verified c) ∷ past) earlier new)
+
+  -- What comes of a certificate from beyond the window, by what it is answered: it is learned and
+  -- kept, or who forged it is blocked. Else nothing changes.
+  abbrev pub CatchesUp : ValidatorView S G D L C → K → Certificate C D → Receipt Ahead
+      → ValidatorView S G D L C → Type 0
+  CatchesUp old peer c (Answered CertifiedAhead) new = RunTakes c old new
+  CatchesUp old peer c (Answered ForgedAhead) new =
+      RunMeets old new (did (called (forgery_came peer c)))
+  CatchesUp old peer c answer new = new ≡ old
 
   -- nothing happened that counts
   abbrev pub RunStays : ValidatorView S G D L C → ValidatorView S G D L C → Type 0

@@ -1,10 +1,11 @@
 -- Certificates that are kept: of each kind and round one.
 use Rattle.std.specs.Prelude.{◌≡◌, ◌<◌, ◌≤◌, ◌⊎◌, ◌++◌, ℕ, Bool, List, [], ◌∷◌, Contains, Some}
-use Rattle.std.specs.Prelude.{nat_le}
+use Rattle.std.specs.Prelude.{IsPermutation, false, length, nat_le, take}
 use Rattle.std.specs.List.{slice_get}
 use Rattle.batcher.specs.Votes.{kind_certified, round_in, subject_certified}
 use Rattle.batcher.specs.messages.Certificate.{Certificate}
 use Rattle.batcher.specs.messages.Kind.{Kind}
+use Rattle.batcher.specs.messages.Kind.TheVariants.{Finalization, Notarization, Nullification}
 use Rattle.batcher.specs.messages.Proposal.{Proposal}
 use Rattle.batcher.specs.messages.Subject.TheVariants.{Finalize}
 use Rattle.batcher.specs.positions.Epoch.{Epoch}
@@ -16,6 +17,12 @@ pub record ShelfView (C D : Type 0) : Type 0 where
   pub certificates : List (Certificate C D)
   pub handed : ℕ
   pub room : ℕ
+
+-- the view up to which those of a kind are, where this is so of each kind
+abbrev pub last_of : ℕ → ℕ → ℕ → Kind → ℕ
+last_of final notarized nullified Finalization = final
+last_of final notarized nullified Notarization = notarized
+last_of final notarized nullified Nullification = nullified
 
 module _ {C D : Type 0} where
   -- the kind and the round of a certificate
@@ -50,6 +57,18 @@ module _ {C D : Type 0} where
       (IsLookedAt epoch first c × ShelvesOne c old new)
       ⊎ ((IsLookedAt epoch first c → ⊥) × (new ≡ old))
 
+  -- Of the first ones, which were given, those that are to be given again come behind the others.
+  pub record PutsBehind (is_given_again : Certificate C D → Bool) (old new : ShelfView C D)
+      : Type 0 where
+    pub moves : IsPermutation old.certificates new.certificates
+    pub within : new.handed ≤ length new.certificates
+    pub stay_given :
+        (c : Certificate C D) → Contains (take old.handed old.certificates) c
+        → is_given_again c ≡ false → Contains (take new.handed new.certificates) c
+    pub no_others :
+        (c : Certificate C D) → Contains (take new.handed new.certificates) c
+        → Contains (take old.handed old.certificates) c × (is_given_again c ≡ false)
+
   -- at this place is a finalization of the proposal, of a view after this one
   pub record IsFinalAt (view : ℕ) (kept : List (Certificate C D)) (i : ℕ) (p : Proposal D) : Type 0
     where
@@ -57,6 +76,13 @@ module _ {C D : Type 0} where
       pub there : slice_get kept i ≡ Some certificate
       pub is_of : subject_certified certificate ≡ Finalize p
       pub after : view < p.round.view.0
+
+  -- no finalization of a view after this one is of a lower view than the proposal
+  abbrev pub IsLowestFinal : ℕ → List (Certificate C D) → Proposal D → Type 0
+  IsLowestFinal view kept p =
+      (c : Certificate C D) → Contains kept c → (q : Proposal D)
+      → subject_certified c ≡ Finalize q → view < q.round.view.0
+      → p.round.view.0 ≤ q.round.view.0
 
   -- there is one
   pub record IsToAnnounce (view : ℕ) (kept : List (Certificate C D)) : Type 0 where
@@ -70,7 +96,12 @@ module _ {C D : Type 0} where
       (c : Certificate C D) → Contains kept c → (p : Proposal D)
       → subject_certified c ≡ Finalize p → p.round.view.0 ≤ view
 
-  -- They are of each kind and round one, and no finalization is of a view after this one.
-  pub record AreShelved (last_final : ℕ) (kept : List (Certificate C D)) : Type 0 where
-    pub distinct : AreDistinct kind_and_round kept
-    pub no_later : HaveNoFinal last_final kept
+  -- They are of each kind and round one, no finalization is of a view after this one, and none of a
+  -- kind is after the last of that.
+  pub record AreShelved (last_final : ℕ) (last : Kind → ℕ) (kept : List (Certificate C D)) : Type 0
+    where
+      pub distinct : AreDistinct kind_and_round kept
+      pub no_later : HaveNoFinal last_final kept
+      pub up_to :
+          (c : Certificate C D) → Contains kept c
+          → (round_in (subject_certified c)).view.0 ≤ last (kind_certified c)

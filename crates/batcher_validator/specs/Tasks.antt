@@ -21,9 +21,9 @@ use Rattle.batcher_voter.specs.Knowledge.{KnowsOf}
 use Rattle.batcher_voter.specs.Refusals.{IsAnotherNotarized, RestsOnLearned}
 use Rattle.batcher_validator.specs.Histories.{HadVoted, HasAnnouncedFrom, HasAskedFrom, HasBlocked}
 use Rattle.batcher_validator.specs.Histories.{HasForwarded, HasHad, HasHanded, HasRecast, HasSent}
-use Rattle.batcher_validator.specs.Histories.{IsVerifying, Leads, ValidatorHistory, calls_in}
-use Rattle.batcher_validator.specs.Histories.{chosen_in, conduct_in, expired_in, gave, last_to_sign}
-use Rattle.batcher_validator.specs.Histories.{posed_in, proposal_by, to_forward, took}
+use Rattle.batcher_validator.specs.Histories.{IsVerifying, Leads, ValidatorHistory, before_final}
+use Rattle.batcher_validator.specs.Histories.{calls_in, chosen_in, conduct_in, expired_in, gave}
+use Rattle.batcher_validator.specs.Histories.{last_to_sign, posed_in, proposal_by, to_forward, took}
 use Rattle.batcher_validator.specs.Histories.{unsigned_in, voter_history, window_by}
 use Rattle.batcher_validator.specs.Shelves.{IsLookedAt, kind_and_round}
 use Rattle.batcher_validator.specs.Unsigned.{is_unsigned}
@@ -71,6 +71,14 @@ module _ {D K G C : Type 0} (x : NodeConfig D K G C) where
     pub is_of : subject_certified certificate ≡ Finalize p
     pub certifies : certifies_itself x.meaning certificate ≡ true
 
+  -- Each finalization that counted before the view was made the final one is of that view or of a
+  -- later one, or a proposal of its view, or of a later one, was given as final.
+  abbrev pub IsNextFinal : ValidatorHistory D K G C → Proposal D → Type 0
+  IsNextFinal past p =
+      (c : Certificate C D) → Counts (before_final past) c → (q : Proposal D)
+      → subject_certified c ≡ Finalize q → 0 < q.round.view.0
+      → (p.round.view.0 ≤ q.round.view.0) ⊎ HasAnnouncedFrom past q.round.view.0
+
   -- a certificate of the kind and the round, which certifies what it names
   pub record IsThere (kind : Kind) (number : Round) : Type 0 where
     pub certificate : Certificate C D
@@ -107,7 +115,7 @@ module _ {D K G C : Type 0} (x : NodeConfig D K G C) where
       pub rests : RestsOnLearned (conduct_of (voter_history past)) (window_by past).finalized s
       pub within : is_of x.epoch (window_by past) (round_in s) ≡ true
 
-    -- It may be given to be signed: it may be voted for, and since all was to be sent again no
+    -- It may be given to be signed: it may be voted for, and since what was sent was to be again no
     -- signature was refused of its kind, of its view or a later one.
     abbrev pub MaySign : ValidatorHistory D K G C → Subject D → Type 0
     MaySign past s = MayVote past s × (is_unsigned (unsigned_in past) s ≡ false)
@@ -143,10 +151,10 @@ module _ {D K G C : Type 0} (x : NodeConfig D K G C) where
     -- A participant gave cause to be blocked,
     MayGive past (Block who cause) =
         (cause_in x (calls_in past) who.0 ≡ Some cause) × (HasBlocked past who.0 → ⊥)
-    -- a proposal is certified, of the view that is the final one now,
+    -- a proposal is certified, of the view that is the final one now, and none is passed over,
     MayGive past (Final p) =
         IsCertified p × (((window_by past).finalized ≡ p.round.view.0)
-        × (HasAnnouncedFrom past p.round.view.0 → ⊥))
+        × ((HasAnnouncedFrom past p.round.view.0 → ⊥) × IsNextFinal past p))
     -- a vote was written, in this life or before,
     MayGive past (SendVote vote) =
         HasVoted (conduct_in earlier past) (subject_of vote)

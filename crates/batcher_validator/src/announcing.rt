@@ -5,16 +5,18 @@ ghost use Rattle.std.specs.Prelude.{Some, not, take, true, false};
 ghost use Rattle.std.specs.List.{count_by, filter, slice_get};
 ghost use Rattle.batcher.specs.messages.Certificate.{Certificate as TheCertificate};
 ghost use Rattle.batcher_agreement.specs.Lives.{called, verified};
-ghost use Rattle.batcher_bytes.specs.Messages.{vote_format};
+ghost use Rattle.batcher_bytes.specs.Messages.{certificate_format, vote_format};
 ghost use Rattle.batcher_journal.specs.Floors.{is_over};
 ghost use Rattle.batcher_node.specs.Events.{view_finalized};
 ghost use Rattle.batcher_node.specs.Nodes.{SameNode};
+ghost use Rattle.batcher_validator.specs.Disks.{IsTooLongToAnnounce};
 ghost use Rattle.batcher_validator.specs.Ending.{HasLessLeft};
-ghost use Rattle.batcher_validator.specs.Running.{ForEachRun, Gives, IsReadyTask, RunLeaves};
+ghost use Rattle.batcher_validator.specs.Running.{ForEachRun, Gives, IsReadyTask};
+ghost use Rattle.batcher_validator.specs.Running.{RunLeaves};
 ghost use Rattle.batcher_validator.specs.Running.{RunStays, WhyNotFinal, tally_from, left_of};
-ghost use Rattle.batcher_validator.specs.Shelves.{IsFinalAt, IsToAnnounce, is_from};
+ghost use Rattle.batcher_validator.specs.Shelves.{IsFinalAt, IsLowestFinal, IsToAnnounce, is_from};
 ghost use Rattle.batcher_validator.specs.declared.task.PollFault.{PollFault};
-ghost use Rattle.batcher_voter.specs.Journals.{IsRaised};
+ghost use Rattle.batcher_voter.specs.Journals.{IsRaised, IsTooLongToFinalize};
 ghost use Rattle.batcher_voter.specs.Voting.{ForEachLife, IsVoting, VoterStays};
 ghost use Rattle.batcher_voter.specs.declared.answers.FinalizeFault.{FinalizeFault};
 ghost use Rattle.batcher_bytes.specs.Copies.{KeepsCopy};
@@ -41,7 +43,9 @@ where
         i: usize,
         proposal: Proposal<D>,
     ) -> Result<Option<Task<S::Signature, D>>, PollFault>
-        requires { IsFinalAt self.old.given.announced self.old.shelf.certificates i proposal }
+        requires there { IsFinalAt self.old.given.announced self.old.shelf.certificates i proposal }
+        requires lowest { IsLowestFinal self.old.given.announced self.old.shelf.certificates
+            proposal }
         ensures gives { IfOk result (λ given. IfSome given
             (Gives (⟦<S as NodeConfigs<D>>⟧.of self.old.voter.node) self.old self.new)) }
         ensures ready { IfOk result (λ given. IfSome given (IsReadyTask self.old)) }
@@ -52,8 +56,13 @@ where
             (RunStays (⟦<S as NodeConfigs<D>>⟧.of self.old.voter.node) self.old self.new) }
         ensures closed { result ≡ Err PollFault.Closed
             → self.new.voter.journal.is_open ≡ false }
+        ensures memory { result ≡ Err PollFault.OutOfMemory
+            → self.new.voter.journal.is_open ≡ self.old.voter.journal.is_open }
         ensures full { result ≡ Err PollFault.Full
             → self.new.voter.journal.is_open ≡ self.old.voter.journal.is_open }
+        ensures too_long { result ≡ Err PollFault.Full → IsTooLongToAnnounce
+            (vote_format S.Signature.format D.format)
+            (certificate_format S.Certificate.format D.format) L.is_too_small self.old }
         ensures less { IfOk result (λ given. IfSome given
             (HasLessLeft (⟦<S as NodeConfigs<D>>⟧.of self.old.voter.node) self.old self.new)) }
         ensures leaves { RunLeaves (⟦<S as NodeConfigs<D>>⟧.of self.old.voter.node)
@@ -98,8 +107,15 @@ where
             (⟦<S as NodeConfigs<D>>⟧.of self.old.voter.node) self.old i) }
         ensures closed { result ≡ Err FinalizeFault.Closed
             → self.new.voter.journal.is_open ≡ false }
+        ensures memory { result ≡ Err FinalizeFault.OutOfMemory
+            → self.new.voter.journal.is_open ≡ self.old.voter.journal.is_open }
         ensures full { result ≡ Err FinalizeFault.Full
             → self.new.voter.journal.is_open ≡ self.old.voter.journal.is_open }
+        ensures too_long { (c : TheCertificate S.Certificate D)
+            → slice_get self.old.shelf.certificates i ≡ Some c → result ≡ Err FinalizeFault.Full
+            → IsTooLongToFinalize (vote_format S.Signature.format D.format)
+            (certificate_format S.Certificate.format D.format) L.is_too_small c
+            self.old.voter.journal }
         ensures leaves { RunLeaves (⟦<S as NodeConfigs<D>>⟧.of self.old.voter.node)
             (vote_format S.Signature.format D.format) L.is_honest L.may_leave self.old self.new }
         ensures same { SameNode self.old.voter.node self.new.voter.node }
@@ -120,6 +136,7 @@ where
             begun: self.left_of(tally.begun, floor),
             recast: self.left_of(tally.recast, floor),
             sent: self.left_of(tally.sent, floor),
+            resent: self.left_of(tally.resent, floor),
         }
     }
 

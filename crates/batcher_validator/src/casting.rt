@@ -1,13 +1,15 @@
 //! A validator's own votes are cast.
 
-ghost use Rattle.std.specs.Prelude.{◌≡◌, IfErr, IfOk, List, OnErr, ℕ, true};
+ghost use Rattle.std.specs.Prelude.{◌≡◌, ◌∷◌, [], Err, IfErr, IfOk, List, OnErr, ℕ, true};
 ghost use Rattle.batcher.specs.Votes.{attestation_of, subject_of};
 ghost use Rattle.batcher_bytes.specs.Messages.{vote_format};
+ghost use Rattle.batcher_journal.specs.Ready.{HasNoRoomFor};
 ghost use Rattle.batcher_node.specs.Nodes.{SameNode};
 ghost use Rattle.batcher_validator.specs.Running.{ForEachRun, RunCasts, RunMayWrite};
 ghost use Rattle.batcher_voter.specs.Journals.{MayGain};
 ghost use Rattle.batcher_voter.specs.Voting.{Casts, ForEachLife, IsInJournal, LeavesVote, MayWrite};
 ghost use Rattle.batcher_voter.specs.Voting.{WhyNotCast};
+ghost use Rattle.batcher_voter.specs.declared.answers.CastFault.{CastFault};
 ghost use Rattle.batcher_bytes.specs.Copies.{KeepsCopy};
 
 use crate::validator::Validator;
@@ -39,6 +41,9 @@ where
         ensures why { IfErr result (λ fault. WhyNotCast
             (⟦<S as NodeConfigs<D>>⟧.of self.old.voter.node) D.eq self.old.voter vote fault
             self.new.voter) }
+        ensures full { result ≡ Err CastFault.Full → HasNoRoomFor
+            (vote_format S.Signature.format D.format) L.is_full self.old.voter.journal.log
+            (vote ∷ []) self.new.voter.journal.unwritten }
         ensures leaves { (left : List ℕ) → self.old.voter.journal.is_open ≡ true
             → L.is_honest self.new.voter.journal.log → L.may_leave self.new.voter.journal.log left
             → ForEachLife (⟦<S as NodeConfigs<D>>⟧.of self.old.voter.node) self.old.voter
@@ -72,6 +77,9 @@ where
         ensures why { IfErr result (λ fault. WhyNotCast
             (⟦<S as NodeConfigs<D>>⟧.of self.old.voter.node) D.eq self.old.voter vote fault
             self.new.voter) }
+        ensures full { result ≡ Err CastFault.Full → HasNoRoomFor
+            (vote_format S.Signature.format D.format) L.is_full self.old.voter.journal.log
+            (vote ∷ []) self.new.voter.journal.unwritten }
         ensures leaves { (left : List ℕ) → self.old.voter.journal.is_open ≡ true
             → L.is_honest self.new.voter.journal.log → L.may_leave self.new.voter.journal.log left
             → ForEachLife (⟦<S as NodeConfigs<D>>⟧.of self.old.voter.node) self.old.voter

@@ -1,21 +1,23 @@
 //! What is given to be done, once nobody is to be blocked and nothing is to be given as final.
 
 ghost use Rattle.std.specs.Prelude.{◌≡◌, ◌≤◌, ◌<◌, ◌+◌, ◌⊎◌, ◌^◌, [], IfNone, IfSome, MatchBool};
-ghost use Rattle.std.specs.Prelude.{None, Some, length, true, false};
+ghost use Rattle.std.specs.Prelude.{None, Some, length, max, true, false};
 ghost use Rattle.std.specs.List.{slice_get};
 ghost use Rattle.batcher_journal.specs.Answers.{MayBeWrittenBehind};
 ghost use Rattle.batcher_node.specs.Nodes.{IsAtRest, IsNext};
 ghost use Rattle.batcher_validator.specs.Ending.{HasLessLeft};
 ghost use Rattle.batcher_validator.specs.Histories.{forward_with};
 ghost use Rattle.batcher_validator.specs.Posing.{BlocksNobody, CastsNone, EntersNone};
+ghost use Rattle.batcher_validator.specs.Posing.{IsPlaceToSend, SendsNone};
 ghost use Rattle.batcher_validator.specs.Queues.{AreDistinct};
+ghost use Rattle.batcher_validator.specs.Resending.{IsPlaceFrom};
 ghost use Rattle.batcher_validator.specs.Running.{ForEachRun, Gives, IsReadyTask, RunStays};
 ghost use Rattle.batcher_validator.specs.Shelves.{HaveNoFinal, IsAt, kind_and_round};
 ghost use Rattle.batcher_validator.specs.Tasks.{IsGivenMeanwhile, NothingIsDue};
 ghost use Rattle.batcher_validator.specs.Tasks.{NothingIsDueMeanwhile};
 ghost use Rattle.batcher_voter.specs.Voting.{BeginWithOneView, ForEachLife, IsNextView};
 
-use crate::tally::Tally;
+use crate::tally::{Tally, place_from};
 use crate::task::Task;
 use crate::validator::Validator;
 use batcher::messages::{Digest, Identical, Kind, Vote};
@@ -60,8 +62,9 @@ where
                     Some(Task::Cast(vote))
                 }
                 None => match self.next_vote() {
-                    Some(vote) => {
-                        self.note_vote();
+                    Some((place, vote)) => {
+                        let next = self.place_behind(place);
+                        self.note_vote(place, next);
                         Some(Task::SendVote(vote))
                     }
                     None => self.give_forward(),
@@ -144,8 +147,7 @@ where
         requires no_final { HaveNoFinal self.old.given.announced self.old.shelf.certificates }
         requires no_view { EntersNone self.old }
         requires no_cast { CastsNone self.old }
-        requires no_vote { slice_get self.old.voter.journal.contents.votes
-            self.old.given.tally.sent ≡ None }
+        requires no_vote { SendsNone self.old }
         ensures gives { IfSome result
             (Gives (⟦<S as NodeConfigs<D>>⟧.of self.old.voter.node) self.old self.new) }
         ensures ready { IfSome result (IsReadyTask self.old) }
@@ -175,8 +177,7 @@ where
         requires no_final { HaveNoFinal self.old.given.announced self.old.shelf.certificates }
         requires no_view { EntersNone self.old }
         requires no_cast { CastsNone self.old }
-        requires no_vote { slice_get self.old.voter.journal.contents.votes
-            self.old.given.tally.sent ≡ None }
+        requires no_vote { SendsNone self.old }
         requires no_forward { self.old.given.forwarding ≡ None }
         ensures gives { IfSome result
             (Gives (⟦<S as NodeConfigs<D>>⟧.of self.old.voter.node) self.old self.new) }
@@ -209,28 +210,61 @@ where
         }
     }
 
-    // The first vote of the journal that wasn't given to be sent.
-    fn next_vote(&self) -> Option<Vote<S::Signature, D>>
-        ensures { result ≡ slice_get self.now.voter.journal.contents.votes
-            self.now.given.tally.sent }
+    // The first vote of the journal that wasn't given to be sent, or is to be sent again, with its
+    // place.
+    fn next_vote(&self) -> Option<(usize, Vote<S::Signature, D>)>
+        ensures some { IfSome result (λ it.
+            (slice_get self.now.voter.journal.contents.votes it.0 ≡ Some it.1)
+            × IsPlaceToSend self.now it.0) }
+        ensures none { result ≡ None → SendsNone self.now }
     {
-        self.voter
-            .journal()
-            .votes()
-            .get(self.given.tally.sent)
-            .copied()
+        let place = self.next_place();
+        match self.vote_at(place) {
+            Some(vote) => Some((place, vote)),
+            None => None,
+        }
     }
 
-    fn note_vote(&mut self)
-        requires { self.old.given.tally.sent < length self.old.voter.journal.contents.votes }
+    fn next_place(&self) -> usize
+        ensures { IsPlaceToSend self.now result }
+    {
+        place_from(
+            self.voter.journal().votes(),
+            self.given.tally.resent,
+            self.given.tally.sent,
+            self.given.resending.from,
+        )
+    }
+
+    // The place behind this one of the next vote that is to be sent again, or the end of those that
+    // were sent.
+    fn place_behind(&self, place: usize) -> usize
+        requires { place < length self.now.voter.journal.contents.votes }
+        ensures { IsPlaceFrom self.now.given.resending.from
+            self.now.voter.journal.contents.votes (place + 1)
+            (max self.now.given.tally.sent (place + 1)) result }
+    {
+        let votes = self.voter.journal().votes();
+        let _ = votes.len();
+        let end = self.given.tally.sent.max(place + 1);
+        place_from(votes, place + 1, end, self.given.resending.from)
+    }
+
+    // The vote at a place was given, and the next one of those to be sent again is at another.
+    fn note_vote(&mut self, place: usize, next: usize)
+        requires { place < length self.old.voter.journal.contents.votes }
         ensures given { self.new.given ≡ record self.old.given {
-          tally = record self.old.given.tally { sent = self.old.given.tally.sent + 1 };
+          tally = record self.old.given.tally {
+            sent = max self.old.given.tally.sent (place + 1);
+            resent = next;
+          };
         } }
         ensures voter { self.new.voter ≡ self.old.voter }
         ensures shelf { self.new.shelf ≡ self.old.shelf }
     {
         let _ = self.voter.journal().votes().len();
-        self.given.tally.sent += 1;
+        self.given.tally.sent = self.given.tally.sent.max(place + 1);
+        self.given.tally.resent = next;
     }
 
     // The first vote of an earlier life that wasn't given to be cast again.

@@ -1,6 +1,6 @@
 //! What comes to a validator: messages of its peers, and its own votes.
 
-ghost use Rattle.std.specs.Prelude.{◌≡◌, ◌<◌, ◌≤◌, ◌⊎◌, ◌∷◌, Err, IfOk, IfSome, None, Ok};
+ghost use Rattle.std.specs.Prelude.{◌≡◌, ◌≢◌, ◌<◌, ◌≤◌, ◌⊎◌, ◌∷◌, Err, IfOk, IfSome, None, Ok};
 ghost use Rattle.std.specs.Prelude.{MatchBool, OnErr, OnOk, false, length, option_and_then, true};
 ghost use Rattle.batcher.specs.Verifiers.{certifies_itself};
 ghost use Rattle.batcher.specs.Votes.{round_in, subject_certified, subject_of};
@@ -9,9 +9,10 @@ ghost use Rattle.batcher_agreement.specs.Lives.{called, verified};
 ghost use Rattle.batcher_node.specs.Events.{certificate_came, constructed, view_entered, vote_came};
 ghost use Rattle.batcher_node.specs.Nodes.{IsAtRest, IsLedByAnother, IsNext, SameNode, slot_at};
 ghost use Rattle.batcher_node.specs.declared.answers.EnterFault.{EnterFault};
-ghost use Rattle.batcher_node.specs.Represents.{IsHeard, MayNeedIn};
+ghost use Rattle.batcher_node.specs.Events.{forgery_came};
+ghost use Rattle.batcher_node.specs.Represents.{IsHeard, MayNeedIn, ahead_answer};
 ghost use Rattle.batcher_validator.specs.Running.{HasConstructed, RunMeets, RunStays, RunTakes};
-ghost use Rattle.batcher_validator.specs.Running.{blocks_sender};
+ghost use Rattle.batcher_validator.specs.Running.{CatchesUp, blocks_sender};
 ghost use Rattle.batcher_validator.specs.Shelves.{Shelves};
 ghost use Rattle.batcher_validator.specs.Histories.{answered, did};
 ghost use Rattle.batcher_voter.specs.Keeping.{IsKnownAlready};
@@ -30,7 +31,7 @@ use batcher::scheme::Scheme;
 use batcher::verifier::Batch;
 use batcher_bytes::{Codec, Log, OwnedCodec};
 use batcher_node::{
-    Construction, EnterFault, NodeConfigs, Receipt, Verdict,
+    Ahead, Construction, EnterFault, NodeConfigs, Receipt, Verdict,
     senders_of_votes_to_send_are_never_blocked,
 };
 use rand_core::CryptoRng;
@@ -234,21 +235,93 @@ where
         self.voter.receive_certificate(peer, certificate)
     }
 
-    /// Takes in a certificate from beyond the window, by which who fell behind goes on. It is
-    /// verified, learned and kept, or refused for memory; then poll. It answers false where it
-    /// doesn't certify what it names: then drop who sent it.
+    /// Takes in a certificate from beyond the window that a peer sent, by which who fell behind
+    /// goes on. It is verified, learned and kept, or refused for memory; then poll. Where it
+    /// doesn't certify what it names, the peer is blocked. One from elsewhere isn't looked at.
     pub fn catch_up(
         &mut self,
+        peer: S::PublicKey,
         certificate: Certificate<S::Certificate, D>,
-    ) -> Result<bool, AllocError>
-        ensures took { result ≡ Ok true → RunTakes
-            (⟦<S as NodeConfigs<D>>⟧.of self.old.voter.node) certificate self.old self.new }
-        ensures forged { result ≡ Ok false
-            → certifies_itself (S.meaning self.old.voter.node.scheme) certificate ≡ false }
-        ensures passed { result ≡ Ok false → self.new ≡ self.old }
-        ensures taken { result ≡ Ok true → Shelves self.old.voter.node.epoch
+    ) -> Result<Receipt<Ahead>, AllocError>
+        ensures answer { IfOk result (λ answer. answer ≡ ahead_answer
+            (⟦<S as NodeConfigs<D>>⟧.of self.old.voter.node) self.old.voter.node peer
+            certificate) }
+        ensures meets { IfOk result (λ answer. CatchesUp
+            (⟦<S as NodeConfigs<D>>⟧.of self.old.voter.node) self.old peer certificate answer
+            self.new) }
+        ensures taken { result ≡ Ok (Receipt.Answered Ahead.Certified) → Shelves
+            self.old.voter.node.epoch self.old.voter.node.window.finalized certificate
+            self.old.shelf.certificates self.new.shelf.certificates }
+        ensures certifies { OnErr result (ahead_answer
+            (⟦<S as NodeConfigs<D>>⟧.of self.old.voter.node) self.old.voter.node peer
+            certificate ≡ Receipt.Answered Ahead.Certified) }
+        ensures needed { OnErr result ((self.old.shelf.room ≡ 0)
+            ⊎ (HasRoom self.old.voter.knowledge (round_in (subject_certified certificate)).view.0
+            → IsKnownAlready self.old.voter.knowledge (subject_certified certificate) → ⊥)) }
+        ensures stays { OnErr result
+            (RunStays (⟦<S as NodeConfigs<D>>⟧.of self.old.voter.node) self.old self.new) }
+        ensures node { self.new.voter.node
+            ≡ record self.old.voter.node { blocked = self.new.voter.node.blocked } }
+        ensures refused { OnErr result (self.new.voter.node ≡ self.old.voter.node) }
+        ensures copied { KeepsCopy L.is_copied_as self.old.voter.journal.log
+            self.new.voter.journal.log }
+    {
+        match self.call_ahead(peer, &certificate) {
+            Receipt::Answered(Ahead::Certified) => match self.take_in(certificate) {
+                Ok(()) => Ok(Receipt::Answered(Ahead::Certified)),
+                Err(fault) => Err(fault),
+            },
+            Receipt::Answered(Ahead::Forged) => {
+                drop(certificate);
+                self.stir();
+                Ok(Receipt::Answered(Ahead::Forged))
+            }
+            Receipt::Outside => {
+                drop(certificate);
+                Ok(Receipt::Outside)
+            }
+            Receipt::Dropped => {
+                drop(certificate);
+                Ok(Receipt::Dropped)
+            }
+            Receipt::Unknown => {
+                drop(certificate);
+                Ok(Receipt::Unknown)
+            }
+        }
+    }
+
+    // The voter takes in a certificate from beyond the window.
+    fn call_ahead(
+        &mut self,
+        peer: S::PublicKey,
+        certificate: &Certificate<S::Certificate, D>,
+    ) -> Receipt<Ahead>
+        ensures answer { result ≡ ahead_answer (⟦<S as NodeConfigs<D>>⟧.of self.old.voter.node)
+            self.old.voter.node peer certificate.now }
+        ensures certifies { result ≡ Receipt.Answered Ahead.Certified
+            → certifies_itself (S.meaning self.old.voter.node.scheme) certificate.now ≡ true }
+        ensures forged { result ≡ Receipt.Answered Ahead.Forged
+            → VoterMeets (⟦<S as NodeConfigs<D>>⟧.of self.old.voter.node) self.old.voter
+            self.new.voter (forgery_came peer certificate.now) }
+        ensures quiet { result ≢ Receipt.Answered Ahead.Forged → self.new ≡ self.old }
+        ensures node { self.new.voter.node
+            ≡ record self.old.voter.node { blocked = self.new.voter.node.blocked } }
+        ensures journal { self.new.voter.journal ≡ self.old.voter.journal }
+        ensures given { self.new.given ≡ self.old.given }
+        ensures shelf { self.new.shelf ≡ self.old.shelf }
+    {
+        self.voter.receive_ahead(peer, certificate)
+    }
+
+    // Learns and keeps a certificate from beyond the window that certifies.
+    fn take_in(&mut self, certificate: Certificate<S::Certificate, D>) -> Result<(), AllocError>
+        requires { certifies_itself (S.meaning self.old.voter.node.scheme) certificate ≡ true }
+        ensures took { OnOk result (RunTakes (⟦<S as NodeConfigs<D>>⟧.of self.old.voter.node)
+            certificate self.old self.new) }
+        ensures taken { OnOk result (Shelves self.old.voter.node.epoch
             self.old.voter.node.window.finalized certificate self.old.shelf.certificates
-            self.new.shelf.certificates }
+            self.new.shelf.certificates) }
         ensures needed { OnErr result ((self.old.shelf.room ≡ 0)
             ⊎ (HasRoom self.old.voter.knowledge (round_in (subject_certified certificate)).view.0
             → IsKnownAlready self.old.voter.knowledge (subject_certified certificate) → ⊥)) }
@@ -258,13 +331,9 @@ where
         ensures copied { KeepsCopy L.is_copied_as self.old.voter.journal.log
             self.new.voter.journal.log }
     {
-        if !self.verifies(&certificate) {
-            drop(certificate);
-            return Ok(false);
-        }
         match self.make_room() {
-            Ok(()) => match self.catch_up_with_room(certificate) {
-                Ok(()) => Ok(true),
+            Ok(()) => match self.take_in_with_room(certificate) {
+                Ok(()) => Ok(()),
                 Err(fault) => Err(fault),
             },
             Err(fault) => {
@@ -275,7 +344,7 @@ where
     }
 
     // The same of one that certifies, for which there is room.
-    fn catch_up_with_room(
+    fn take_in_with_room(
         &mut self,
         certificate: Certificate<S::Certificate, D>,
     ) -> Result<(), AllocError>

@@ -13,6 +13,7 @@ mod looping;
 mod polling;
 mod posing;
 mod recalling;
+mod resending;
 mod shelf;
 mod starting;
 mod tally;
@@ -21,7 +22,7 @@ mod unsigned;
 mod validator;
 
 pub use looping::{Loop, Next};
-pub use polling::poll_comes_to_an_end;
+pub use polling::{each_comes_again, poll_comes_to_an_end};
 pub use starting::LoopFault;
 pub use task::{PollFault, Task};
 pub use validator::Validator;

@@ -83,8 +83,9 @@ impl<T: Truth> Loop<T> {
             self.old.validator self.new.validator) }
         ensures closed { result ≡ Err Fault.Closed
             → self.new.validator.voter.journal.is_open ≡ false }
-        ensures full { result ≡ Err Fault.Full
+        ensures memory { result ≡ Err Fault.OutOfMemory
             → self.new.validator.voter.journal.is_open ≡ true }
+        ensures full { result ≡ Err Fault.Full → ⊥ }
         ensures on_disk { self.new.validator.voter.journal.log.copy
             ≡ self.old.validator.voter.journal.log.copy }
         ensures same { SameNode self.old.validator.voter.node self.new.validator.voter.node }
@@ -192,8 +193,9 @@ impl<T: Truth> Loop<T> {
             self.old.validator self.new.validator) }
         ensures closed { result ≡ Err Fault.Closed
             → self.new.validator.voter.journal.is_open ≡ false }
-        ensures full { result ≡ Err Fault.Full
+        ensures memory { result ≡ Err Fault.OutOfMemory
             → self.new.validator.voter.journal.is_open ≡ true }
+        ensures full { result ≡ Err Fault.Full → ⊥ }
         ensures on_disk { self.new.validator.voter.journal.log.copy
             ≡ self.old.validator.voter.journal.log.copy }
         ensures same { SameNode self.old.validator.voter.node self.new.validator.voter.node }

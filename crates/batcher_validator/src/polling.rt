@@ -1,28 +1,38 @@
 //! Which task is given next, and that they come to an end.
 
-ghost use Rattle.std.specs.Prelude.{◌≡◌, ◌≤◌, ◌<◌, ◌+◌, ◌⊎◌, ◌^◌, [], Err, IfOk, IfNone, IfSome};
-ghost use Rattle.std.specs.Prelude.{MatchBool, None, Ok, OnErr, Some, length, set, true, false, ℕ};
+ghost use Rattle.std.specs.Prelude.{◌≡◌, ◌≤◌, ◌<◌, ◌+◌, ◌*◌, ◌⊎◌, ◌^◌, ◌++◌, [], Contains, Err};
+ghost use Rattle.std.specs.Prelude.{IfOk, IfNone, IfSome, MatchBool, None, Ok, OnErr, Some, length};
+ghost use Rattle.std.specs.Prelude.{set, true, false, ℕ};
 ghost use Rattle.std.specs.List.{slice_get};
-ghost use Rattle.batcher_bytes.specs.Messages.{vote_format};
+ghost use Rattle.batcher_bytes.specs.Messages.{certificate_format, vote_format};
 ghost use Rattle.batcher_journal.specs.Answers.{MayBeWrittenBehind};
+ghost use Rattle.batcher.specs.messages.Kind.{Kind as TheKind};
+ghost use Rattle.batcher.specs.positions.Round.{Round as TheRound};
 ghost use Rattle.batcher_node.specs.Nodes.{IsAtRest, IsNext, NodeConfig, SameNode, cause_at};
 ghost use Rattle.batcher_validator.specs.Ending.{GivesOnAndOn, HasLessLeft};
 ghost use Rattle.batcher_validator.specs.Posing.{BlocksNobody};
-ghost use Rattle.batcher_validator.specs.Running.{ForEachRun, Gives, IsReadyTask, RunLeaves};
+ghost use Rattle.batcher_validator.specs.Running.{ForEachRun, Gives, IsReadyTask};
+ghost use Rattle.batcher_validator.specs.Running.{RunLeaves};
 ghost use Rattle.batcher_validator.specs.Running.{RunMeets, RunStays, ValidatorView};
-ghost use Rattle.batcher_validator.specs.Shelves.{HaveNoFinal, IsAt, IsFinalAt, IsToAnnounce};
-ghost use Rattle.batcher_validator.specs.Shelves.{kind_and_round};
+ghost use Rattle.batcher_validator.specs.Resending.{IsPlaceFrom, is_again, still_to_forward};
+ghost use Rattle.batcher_validator.specs.Resending.{turn_at};
+ghost use Rattle.batcher_validator.specs.Shelves.{HaveNoFinal, IsAt, IsFinalAt, IsLowestFinal};
+ghost use Rattle.batcher_validator.specs.Shelves.{IsToAnnounce, PutsBehind, kind_and_round};
 ghost use Rattle.batcher_validator.specs.declared.task.PollFault.{PollFault};
-ghost use Rattle.batcher_validator.specs.Histories.{again};
+ghost use Rattle.batcher_validator.specs.Histories.{HasHanded, ValidatorHistory, again, gave};
+ghost use Rattle.batcher_validator.specs.Returning.{StaysFinal, agains};
 ghost use Rattle.batcher_validator.specs.declared.task.Task.{Task as TheTask};
+ghost use Rattle.batcher_validator.specs.declared.task.Task.TheVariants.{SendCertificate};
 ghost use Rattle.batcher_validator.specs.Tasks.{IsGivenMeanwhile, NothingIsDue};
 ghost use Rattle.batcher_validator.specs.Tasks.{NothingIsDueMeanwhile};
+ghost use Rattle.batcher_validator.specs.Disks.{IsTooLongToAnnounce};
 ghost use Rattle.batcher_validator.specs.Disks.{with_write_done, with_write_given};
 ghost use Rattle.batcher_validator.specs.Unsigned.{nothing_unsigned};
 ghost use Rattle.batcher_voter.specs.Voting.{BeginWithOneView, ForEachLife, IsNextView};
 ghost use Rattle.batcher_bytes.specs.Copies.{KeepsCopy};
 
-use crate::tally::Tally;
+use crate::resending::{Resending, still_to_forward, turn_at};
+use crate::tally::{Tally, place_from};
 use crate::task::{PollFault, Task};
 use crate::unsigned::Unsigned;
 use crate::validator::Validator;
@@ -57,7 +67,12 @@ where
             (RunStays (⟦<S as NodeConfigs<D>>⟧.of self.old.voter.node) self.old self.new) }
         ensures closed { result ≡ Err PollFault.Closed
             → self.new.voter.journal.is_open ≡ false }
+        ensures memory { result ≡ Err PollFault.OutOfMemory
+            → self.new.voter.journal.is_open ≡ true }
         ensures full { result ≡ Err PollFault.Full → self.new.voter.journal.is_open ≡ true }
+        ensures too_long { result ≡ Err PollFault.Full → IsTooLongToAnnounce
+            (vote_format S.Signature.format D.format)
+            (certificate_format S.Certificate.format D.format) L.is_too_small self.old }
         // So it comes to an end: see `poll_comes_to_an_end`.
         ensures less { IfOk result (λ given. IfSome given
             (HasLessLeft (⟦<S as NodeConfigs<D>>⟧.of self.old.voter.node) self.old self.new)) }
@@ -122,31 +137,55 @@ where
         self.voter.leaves_what_was_done();
     }
 
-    /// All that is to be sent is given again, and what is to be signed: what was sent may be lost,
-    /// and what wasn't answered too.
+    /// A part of what was sent is given again, since it may be lost: the finalization of the final
+    /// view, own votes of the current view, the certificates of the two newest views, and in turn
+    /// those of four others (`each_comes_again`). That is bounded, however many views aren't final.
+    /// What wasn't signed is given to be signed again.
     pub fn send_again(&mut self)
         ensures meets { RunMeets (⟦<S as NodeConfigs<D>>⟧.of self.old.voter.node) self.old
             self.new again }
         ensures voter { self.new.voter ≡ self.old.voter }
     {
-        self.note_again();
+        let resent = self.place_again();
+        self.note_again(resent);
     }
 
-    fn note_again(&mut self)
+    // The place of the first vote that was sent and is to be sent again, or the end of those.
+    fn place_again(&self) -> usize
+        ensures { IsPlaceFrom self.now.voter.node.window.current
+            self.now.voter.journal.contents.votes 0 self.now.given.tally.sent result }
+    {
+        let view = self.voter.node().window().current;
+        place_from(self.voter.journal().votes(), 0, self.given.tally.sent, view)
+    }
+
+    // Own votes are to be sent again from this place on.
+    fn note_again(&mut self, resent: usize)
         ensures given { self.new.given ≡ record self.old.given {
-          tally = record self.old.given.tally { sent = 0 };
-          forwarding = None;
+          tally = record self.old.given.tally { resent = resent };
+          resending = record {
+            from = self.old.voter.node.window.current;
+            turn = turn_at self.old.voter.node.window self.old.given.resending.turn + 1;
+          };
+          forwarding = still_to_forward self.old.voter.node.window self.old.given.resending.turn
+              self.old.given.forwarding;
           intent = record self.old.given.intent { signing = None; unsigned = nothing_unsigned };
         } }
         ensures voter { self.new.voter ≡ self.old.voter }
-        ensures certificates { self.new.shelf.certificates ≡ self.old.shelf.certificates }
-        ensures handed { self.new.shelf.handed ≡ 0 }
+        ensures shelf { PutsBehind (λ c. is_again self.old.voter.node.window
+            self.old.given.resending.turn (kind_and_round c)) self.old.shelf self.new.shelf }
     {
-        self.given.tally.sent = 0;
-        self.given.forwarding = None;
+        let window = self.voter.node().window();
+        let turn = self.given.resending.turn;
+        self.given.tally.resent = resent;
+        self.given.resending = Resending {
+            from: window.current,
+            turn: turn_at(window, turn) + 1,
+        };
+        self.given.forwarding = still_to_forward(window, turn, self.given.forwarding);
         self.given.intent.signing = None;
         self.given.intent.unsigned = Unsigned::nothing();
-        self.shelf.begin_again();
+        self.shelf.begin_again(window, turn);
     }
 
     /// Whether no disk failed.
@@ -238,6 +277,8 @@ where
             → HaveNoFinal self.now.given.announced self.now.shelf.certificates }
         ensures some { IfSome result (λ it. IsFinalAt self.now.given.announced
             self.now.shelf.certificates it.0 it.1) }
+        ensures lowest { IfSome result (λ it. IsLowestFinal self.now.given.announced
+            self.now.shelf.certificates it.1) }
     {
         self.final_after(self.announced())
     }
@@ -246,6 +287,8 @@ where
     fn final_after(&self, view: u64) -> Option<(usize, Proposal<D>)>
         ensures none { result ≡ None → HaveNoFinal view self.now.shelf.certificates }
         ensures some { IfSome result (λ it. IsFinalAt view self.now.shelf.certificates it.0
+            it.1) }
+        ensures lowest { IfSome result (λ it. IsLowestFinal view self.now.shelf.certificates
             it.1) }
     {
         self.shelf.final_after(view)
@@ -291,6 +334,17 @@ fn cause_of(causes: &[Option<Cause>], i: usize) -> Option<Cause>
         None => None,
     }
 }
+
+/// Does nothing. Each certificate of a view behind the final one comes again, and nobody has to
+/// ask. Let the final view stay while `send_again` is called a quarter as often as there are views
+/// behind it, or more often: each of their certificates that was given by the end was given then.
+pub fn each_comes_again<S: Scheme<D>, D: Digest + Codec>()
+    ensures { (past more : ValidatorHistory D S.PublicKey S.Signature S.Certificate)
+        (final highest : ℕ) (key : TheKind × TheRound)
+        → StaysFinal final highest past more → highest ≤ final + agains more * 4
+        → final < key.1.view.0 → key.1.view.0 ≤ highest → HasHanded (more ++ past) key
+        → Contains more (gave (SendCertificate key.0 key.1)) }
+{}
 
 /// Does nothing. Where nothing comes meanwhile, no validator gives one task after the other for
 /// ever: polled again and again, each comes to have nothing to give.

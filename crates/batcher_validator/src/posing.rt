@@ -34,7 +34,7 @@ use crate::decided::Decided;
 use crate::task::Task;
 use crate::unsigned::Unsigned;
 use crate::validator::Validator;
-use batcher::messages::{Digest, Identical, Proposal, Subject, Vote};
+use batcher::messages::{Digest, Identical, Proposal, Subject};
 use batcher::positions::{Participant, Round, View};
 use batcher::scheme::Scheme;
 use batcher_bytes::{Codec, Log, OwnedCodec};
@@ -274,8 +274,7 @@ where
         ensures none { result ≡ None → (p : TheProposal D)
             → IsNotToSign ⟦<S as NodeConfigs<D>>⟧.of self.now (Finalize p) }
     {
-        self.begins();
-        for view in self.decided().end..=self.highest() {
+        for view in self.decided().end..=self.last_parent() {
             match self.to_finalize_in(View(view)) {
                 Some(proposal) => return Some(proposal),
                 None => {}
@@ -417,11 +416,13 @@ where
         self.voter.notarized(view)
     }
 
-    // The highest view of which a certificate is known.
-    fn highest(&self) -> u64
-        ensures { result ≡ self.now.voter.knowledge.highest }
+    // No proposal of a view above this one is known to be notarized.
+    fn last_parent(&self) -> u64
+        ensures { ForEachLife (⟦<S as NodeConfigs<D>>⟧.of self.now.voter.node) self.now.voter
+            (λ past earlier. (p : TheProposal D) → p.round.epoch ≡ self.now.voter.node.epoch
+            → Knows (conduct_of past) (Notarize p) → p.round.view.0 ≤ result) }
     {
-        self.voter.highest()
+        self.voter.last_parent()
     }
 
     // The final view.
@@ -686,14 +687,6 @@ where
         ensures { result ≡ list_any (λ vote. same_round (round_in (subject_of vote)) round)
             self.now.voter.journal.contents.votes }
     {
-        has_one_in(self.voter.journal().votes(), round)
+        self.voter.journal().has_vote_of(round)
     }
-}
-
-// Whether one of the votes is of the round.
-fn has_one_in<G: Copy, D: Digest>(votes: &[Vote<G, D>], round: Round) -> bool
-    ensures { result
-        ≡ list_any (λ vote. same_round (round_in (subject_of vote)) round) votes.now }
-{
-    votes.iter().any(|vote| vote.round() == round)
 }

@@ -1,6 +1,7 @@
 //! A validator takes in what its disk has.
 
-ghost use Rattle.std.specs.Prelude.{◌≡◌, ◌≤◌, ◌∷◌, IfOk, IfSome, None, Ok, OnOk, false, true};
+ghost use Rattle.std.specs.Prelude.{◌≡◌, ◌<◌, ◌≤◌, ◌∷◌, HoldsAt, IfErr, IfOk, IfSome, None, Ok};
+ghost use Rattle.std.specs.Prelude.{OnOk, false, length, true};
 ghost use Rattle.batcher.specs.Verifiers.{certifies_itself};
 ghost use Rattle.batcher.specs.messages.Certificate.{Certificate as TheCertificate};
 ghost use Rattle.batcher_agreement.specs.Lives.{verified};
@@ -11,6 +12,8 @@ ghost use Rattle.batcher_validator.specs.Running.{AreBytesOf, HasCertificate, Ru
 ghost use Rattle.batcher.specs.Votes.{round_in, subject_certified};
 ghost use Rattle.batcher_voter.specs.Keeping.{HasOnDisk};
 ghost use Rattle.batcher_voter.specs.Reopening.{StaysKnown};
+ghost use Rattle.batcher_voter.specs.Unstarted.{IsReadAs, WhyNotLearned, WhyNotStarted, WhyUnread};
+ghost use Rattle.batcher_voter.specs.declared.answers.StartFault.TheVariants.{OutOfMemory as NoMemory};
 ghost use Rattle.batcher_voter.specs.Voting.{ForEachLife, IsVoting};
 
 use crate::validator::Validator;
@@ -35,6 +38,9 @@ where
             self.old self.new) }
         ensures knows { OnOk result
             (StaysKnown self.old.voter.knowledge self.new.voter.knowledge) }
+        ensures why { IfErr result (WhyNotStarted
+            (certificate_format S.Certificate.format D.format) self.old.voter.journal.contents
+            (certifies_itself (S.meaning self.old.voter.node.scheme))) }
         ensures node { self.new.voter.node ≡ self.old.voter.node }
         ensures journal { self.new.voter.journal ≡ self.old.voter.journal }
     {
@@ -55,6 +61,9 @@ where
             self.old.voter.journal.contents.finalization ≡ Ok c) self.old self.new) }
         ensures knows { OnOk result
             (StaysKnown self.old.voter.knowledge self.new.voter.knowledge) }
+        ensures why { IfErr result (WhyNotStarted
+            (certificate_format S.Certificate.format D.format) self.old.voter.journal.contents
+            (certifies_itself (S.meaning self.old.voter.node.scheme))) }
         ensures node { self.new.voter.node ≡ self.old.voter.node }
         ensures journal { self.new.voter.journal ≡ self.old.voter.journal }
     {
@@ -75,6 +84,9 @@ where
             self.old.voter.journal.contents.certificates) self.old self.new) }
         ensures knows { OnOk result
             (StaysKnown self.old.voter.knowledge self.new.voter.knowledge) }
+        ensures why { IfErr result (WhyNotStarted
+            (certificate_format S.Certificate.format D.format) self.old.voter.journal.contents
+            (certifies_itself (S.meaning self.old.voter.node.scheme))) }
         ensures node { self.new.voter.node ≡ self.old.voter.node }
         ensures journal { self.new.voter.journal ≡ self.old.voter.journal }
     {
@@ -88,12 +100,16 @@ where
     }
 
     fn recall_at(&mut self, alloc: Global, i: usize) -> Result<(), StartFault>
+        requires { i < length self.old.voter.journal.contents.certificates }
         ensures recalls { OnOk result (Recalls
             (⟦<S as NodeConfigs<D>>⟧.of self.old.voter.node) (IsAtPlace
             (certificate_format S.Certificate.format D.format)
             self.old.voter.journal.contents.certificates i) self.old self.new) }
         ensures knows { OnOk result
             (StaysKnown self.old.voter.knowledge self.new.voter.knowledge) }
+        ensures why { IfErr result (WhyNotStarted
+            (certificate_format S.Certificate.format D.format) self.old.voter.journal.contents
+            (certifies_itself (S.meaning self.old.voter.node.scheme))) }
         ensures node { self.new.voter.node ≡ self.old.voter.node }
         ensures journal { self.new.voter.journal ≡ self.old.voter.journal }
     {
@@ -114,6 +130,9 @@ where
             certificate self.old self.new) }
         ensures knows { OnOk result
             (StaysKnown self.old.voter.knowledge self.new.voter.knowledge) }
+        ensures why { IfErr result (WhyNotLearned
+            (certifies_itself (S.meaning self.old.voter.node.scheme))
+            (round_in (subject_certified certificate)) certificate) }
         ensures node { self.new.voter.node ≡ self.old.voter.node }
         ensures journal { self.new.voter.journal ≡ self.old.voter.journal }
     {
@@ -148,6 +167,7 @@ where
             certificate self.old self.new) }
         ensures knows { OnOk result
             (StaysKnown self.old.voter.knowledge self.new.voter.knowledge) }
+        ensures memory { IfErr result (λ fault. fault ≡ NoMemory) }
         ensures node { self.new.voter.node ≡ self.old.voter.node }
         ensures journal { self.new.voter.journal ≡ self.old.voter.journal }
     {
@@ -198,6 +218,11 @@ where
             self.now.voter.journal.contents.finalization ≡ Ok c → ⊥ }
         ensures there { IfOk result (λ it. IfSome it (HasOnDisk
             (certificate_format S.Certificate.format D.format) self.now.voter.journal.contents)) }
+        ensures round { IfOk result (λ it. IfSome it (λ c.
+            round_in (subject_certified c) ≡ self.now.voter.journal.contents.floor)) }
+        ensures why { IfErr result (WhyNotStarted
+            (certificate_format S.Certificate.format D.format) self.now.voter.journal.contents
+            (certifies_itself (S.meaning self.now.voter.node.scheme))) }
     {
         let bytes = self.voter.journal().finalization();
         if bytes.is_empty() {
@@ -221,17 +246,22 @@ where
         alloc: Global,
         i: usize,
     ) -> Result<Certificate<S::Certificate, D>, StartFault>
+        requires { i < length self.now.voter.journal.contents.certificates }
         ensures at { IfOk result (IsAtPlace (certificate_format S.Certificate.format D.format)
             self.now.voter.journal.contents.certificates i) }
         ensures there { IfOk result (HasOnDisk
             (certificate_format S.Certificate.format D.format) self.now.voter.journal.contents) }
+        ensures read { IfOk result (λ c. HoldsAt (λ kept. IsReadAs
+            (certificate_format S.Certificate.format D.format) kept c)
+            self.now.voter.journal.contents.certificates i) }
+        ensures why { IfErr result (WhyNotStarted
+            (certificate_format S.Certificate.format D.format) self.now.voter.journal.contents
+            (certifies_itself (S.meaning self.now.voter.node.scheme))) }
     {
-        match self.voter.journal().certificates().get(i) {
-            Some(kept) => match decoded_of(alloc, kept.round(), kept.certificate()) {
-                Ok(certificate) => Ok(certificate),
-                Err(fault) => Err(fault),
-            },
-            None => Err(StartFault::Malformed),
+        let kept = &self.voter.journal().certificates()[i];
+        match decoded_of(alloc, kept.round(), kept.certificate()) {
+            Ok(certificate) => Ok(certificate),
+            Err(fault) => Err(fault),
         }
     }
 }
@@ -247,6 +277,8 @@ fn decoded_of<C: OwnedCodec, D: Digest + Codec>(
     ensures bytes { IfOk result (λ c. bytes.now
         ≡ (versioned (certificate_format C.format D.format)).encoding c) }
     ensures round { IfOk result (λ c. round_in (subject_certified c) ≡ round) }
+    ensures why { IfErr result (WhyUnread (certificate_format C.format D.format)
+        (round, bytes.now)) }
 {
     match decode_owned::<Certificate<C, D>>(alloc, bytes) {
         Ok(certificate) => {

@@ -1,19 +1,23 @@
 //! The certificates that a validator keeps, to send them, and to send them again.
 
 ghost use Rattle.std.specs.Prelude.{◌≡◌, ◌≤◌, ◌<◌, ◌+◌, ◌⊎◌, ◌++◌, [], ◌∷◌, Contains, IfOk, IfSome};
-ghost use Rattle.std.specs.Prelude.{IsTrue, MatchBool, None, OnErr, OnOk, Some, length, nat_le};
-ghost use Rattle.std.specs.Prelude.{take, true, false, ℕ};
+ghost use Rattle.std.specs.Prelude.{IsPermutation, IsTrue, MatchBool, None, OnErr, OnOk, Some};
+ghost use Rattle.std.specs.Prelude.{get_or, length, nat_le, take, true, false, ℕ};
 ghost use Rattle.std.specs.List.{count_by, filter, slice_get};
 ghost use Rattle.batcher.specs.Votes.{kind_certified, round_in, subject_certified};
 ghost use Rattle.batcher.specs.messages.Certificate.{Certificate as TheCertificate};
 ghost use Rattle.batcher.specs.messages.Proposal.{Proposal as TheProposal};
 ghost use Rattle.batcher.specs.messages.Subject.TheVariants.{Finalize};
-ghost use Rattle.batcher_validator.specs.Queues.{AreDistinct, HasKey};
-ghost use Rattle.batcher_validator.specs.Shelves.{HaveNoFinal, IsAt, IsFinalAt, ShelfView};
-ghost use Rattle.batcher_validator.specs.Shelves.{ShelvesOne, is_from, kind_and_round};
+ghost use Rattle.batcher_validator.specs.Queues.{AreDistinct, AreParted, HasKey};
+ghost use Rattle.batcher_validator.specs.Resending.{is_again, is_again_above};
+ghost use Rattle.batcher_validator.specs.Shelves.{HaveNoFinal, IsAt, IsFinalAt, IsLowestFinal};
+ghost use Rattle.batcher_validator.specs.Shelves.{PutsBehind, ShelfView, ShelvesOne, is_from};
+ghost use Rattle.batcher_validator.specs.Shelves.{kind_and_round};
 
+use crate::resending::{below_turn, is_again};
 use batcher::messages::{Certificate, Digest, Kind, Proposal, Subject};
 use batcher::positions::Round;
+use batcher_node::Window;
 use std::alloc::{AllocError, Global};
 use std::marker::Model;
 
@@ -23,14 +27,16 @@ pub(crate) struct Shelf<C: Drop, D: Digest> {
     certificates: Vec<Certificate<C, D>>,
     // How many of them were given to be sent.
     handed: usize,
-    // No finalization is of a view after this one.
+    // No finalization is of a view after this one, and of the other kinds none after these.
     last_final: u64,
+    last_notarized: u64,
+    last_nullified: u64,
 }
 
 impl<C: Drop, D: Digest> Model for Shelf<C, D> {
     ghost use Rattle.std.specs.Prelude.{◌-◌, length};
     ghost use Rattle.std.specs.Vec.{vec_capacity};
-    ghost use Rattle.batcher_validator.specs.Shelves.{AreShelved, ShelfView};
+    ghost use Rattle.batcher_validator.specs.Shelves.{AreShelved, ShelfView, last_of};
 
     ghost Value = { ShelfView C D };
 
@@ -40,7 +46,8 @@ impl<C: Drop, D: Digest> Model for Shelf<C, D> {
       room = vec_capacity s.certificates - length s.certificates.items;
     } };
 
-    ghost invariant = { λ s. AreShelved s.last_final s.certificates.items };
+    ghost invariant = { λ s. AreShelved s.last_final
+        (last_of s.last_final s.last_notarized s.last_nullified) s.certificates.items };
 }
 
 impl<C: Drop, D: Digest> Shelf<C, D> {
@@ -52,10 +59,12 @@ impl<C: Drop, D: Digest> Shelf<C, D> {
             certificates: Vec::new(alloc),
             handed: 0,
             last_final: 0,
+            last_notarized: 0,
+            last_nullified: 0,
         }
     }
 
-    /// The certificates, in the order in which they came.
+    /// The certificates, in the order in which they came, but for those that were given again.
     pub(crate) fn as_slice(&self) -> &[Certificate<C, D>]
         ensures all { result.now ≡ self.now.certificates }
         ensures distinct { AreDistinct kind_and_round self.now.certificates }
@@ -79,12 +88,32 @@ impl<C: Drop, D: Digest> Shelf<C, D> {
         ensures certificates { ShelvesOne certificate self.old.certificates self.new.certificates }
         ensures handed { self.new.handed ≡ self.old.handed }
     {
-        if has_one_of(&self.certificates, &certificate) {
+        if self.has_one_of(&certificate) {
             drop(certificate);
             return;
         }
-        self.last_final = self.last_final.max(final_view_of(&certificate));
+        let finalized = final_view_of(&certificate);
+        let notarized = view_of_kind(&certificate, Kind::Notarization);
+        let nullified = view_of_kind(&certificate, Kind::Nullification);
+        let last_final = self.last_final.max(finalized);
+        let last_notarized = self.last_notarized.max(notarized);
+        let last_nullified = self.last_nullified.max(nullified);
+        self.last_final = last_final;
+        self.last_notarized = last_notarized;
+        self.last_nullified = last_nullified;
         self.certificates.push_reserved(certificate);
+    }
+
+    // Whether one of the certificate's kind and round is among them.
+    fn has_one_of(&self, certificate: &Certificate<C, D>) -> bool
+        ensures { MatchBool result
+            (HasKey kind_and_round self.now.certificates (kind_and_round certificate.now))
+            (HasKey kind_and_round self.now.certificates (kind_and_round certificate.now) → ⊥) }
+    {
+        match self.get(certificate.kind(), certificate.round()) {
+            Some(_) => true,
+            None => false,
+        }
     }
 
     /// The kind and the round of the first that wasn't given to be sent.
@@ -100,6 +129,7 @@ impl<C: Drop, D: Digest> Shelf<C, D> {
     pub(crate) fn final_after(&self, view: u64) -> Option<(usize, Proposal<D>)>
         ensures none { result ≡ None → HaveNoFinal view self.now.certificates }
         ensures some { IfSome result (λ it. IsFinalAt view self.now.certificates it.0 it.1) }
+        ensures lowest { IfSome result (λ it. IsLowestFinal view self.now.certificates it.1) }
     {
         if self.last_final <= view {
             return None;
@@ -115,14 +145,29 @@ impl<C: Drop, D: Digest> Shelf<C, D> {
         &self.certificates[i]
     }
 
-    /// The one of this kind and round.
+    /// The one of this kind and round. One that would be the latest of its kind isn't looked for.
     pub(crate) fn get(&self, kind: Kind, round: Round) -> Option<&Certificate<C, D>>
         ensures some { IfSome result (λ c. Contains self.now.certificates c.now
             × (kind_and_round c.now ≡ (kind, round))) }
         ensures none { result ≡ None → HasKey kind_and_round self.now.certificates (kind, round)
             → ⊥ }
     {
+        if self.last_of(kind) < round.view.0 {
+            return None;
+        }
         find(&self.certificates, kind, round)
+    }
+
+    // The view up to which those of a kind are.
+    fn last_of(&self, kind: Kind) -> u64
+        ensures { (c : TheCertificate C D) → Contains self.now.certificates c
+            → kind_certified c ≡ kind → (round_in (subject_certified c)).view.0 ≤ result }
+    {
+        match kind {
+            Kind::Notarization => self.last_notarized,
+            Kind::Nullification => self.last_nullified,
+            Kind::Finalization => self.last_final,
+        }
     }
 
     /// The one that waits to be kept for the disk.
@@ -144,12 +189,14 @@ impl<C: Drop, D: Digest> Shelf<C, D> {
         self.handed += 1;
     }
 
-    /// All are to be given again.
-    pub(crate) fn begin_again(&mut self)
-        ensures certificates { self.new.certificates ≡ self.old.certificates }
-        ensures handed { self.new.handed ≡ 0 }
+    /// Those that are given again come behind the others that were given, and so they are no longer
+    /// among those that were.
+    pub(crate) fn begin_again(&mut self, window: Window, turn: u64)
+        ensures { PutsBehind (λ c. is_again window turn (kind_and_round c)) self.old self.new }
     {
-        self.handed = 0;
+        let below = below_turn(window, turn);
+        let end = self.handed.min(self.certificates.len());
+        self.handed = put_behind(&mut self.certificates, end, window, below);
     }
 
     /// Drops those of views before this one.
@@ -175,19 +222,48 @@ impl<C: Drop, D: Digest> Shelf<C, D> {
     }
 }
 
-// Whether one of the certificate's kind and round is among them.
-fn has_one_of<C, D: Digest>(
-    certificates: &[Certificate<C, D>],
-    certificate: &Certificate<C, D>,
-) -> bool
-    ensures { MatchBool result
-        (HasKey kind_and_round certificates.now (kind_and_round certificate.now))
-        (HasKey kind_and_round certificates.now (kind_and_round certificate.now) → ⊥) }
+// Puts those up to an end that are given again behind the others, and answers how many others there
+// are.
+fn put_behind<C, D: Digest>(
+    certificates: &mut Vec<Certificate<C, D>>,
+    end: usize,
+    window: Window,
+    below: u64,
+) -> usize
+    requires { end ≤ length certificates.old.items }
+    ensures moves { IsPermutation certificates.old.items certificates.new.items }
+    ensures behind { (i : ℕ) (c : TheCertificate C D) → end ≤ i
+        → get_or certificates.new.items i c ≡ get_or certificates.old.items i c }
+    ensures parted { AreParted (λ c. is_again_above window below (kind_and_round c))
+        certificates.new.items end result }
 {
-    match find(certificates, certificate.kind(), certificate.round()) {
-        Some(_) => true,
-        None => false,
+    let mut stay = 0;
+    for i in 0..end {
+        if !is_again_at(certificates, i, window, below) {
+            certificates.swap(stay, i);
+            stay += 1;
+        }
     }
+    stay
+}
+
+// Whether the one at this place is given again.
+fn is_again_at<C, D: Digest>(
+    certificates: &[Certificate<C, D>],
+    i: usize,
+    window: Window,
+    below: u64,
+) -> bool
+    requires { i < length certificates.now }
+    ensures { (c : TheCertificate C D) → result
+        ≡ is_again_above window below (kind_and_round (get_or certificates.now i c)) }
+{
+    is_again(
+        window,
+        below,
+        certificates[i].kind(),
+        certificates[i].round(),
+    )
 }
 
 fn count_from<C, D: Digest>(certificates: &[Certificate<C, D>], first: u64) -> usize
@@ -211,6 +287,17 @@ fn final_view_of<C, D: Digest>(certificate: &Certificate<C, D>) -> u64
     }
 }
 
+// The view of a certificate of the kind, and 0 of another.
+fn view_of_kind<C, D: Digest>(certificate: &Certificate<C, D>, kind: Kind) -> u64
+    ensures { kind_certified certificate.now ≡ kind
+        → (round_in (subject_certified certificate.now)).view.0 ≤ result }
+{
+    if certificate.kind() == kind {
+        return certificate.round().view.0;
+    }
+    0
+}
+
 // The same among these.
 fn final_after<C, D: Digest>(
     certificates: &[Certificate<C, D>],
@@ -218,6 +305,7 @@ fn final_after<C, D: Digest>(
 ) -> Option<(usize, Proposal<D>)>
     ensures none { result ≡ None → HaveNoFinal view certificates.now }
     ensures some { IfSome result (λ it. IsFinalAt view certificates.now it.0 it.1) }
+    ensures lowest { IfSome result (λ it. IsLowestFinal view certificates.now it.1) }
 {
     let mut found: Option<(usize, Proposal<D>)> = None;
     for i in 0..certificates.len() {
@@ -235,6 +323,10 @@ fn lower_of<D: Copy>(
     ensures none { result ≡ None → (found ≡ None) × (here ≡ None) }
     ensures some { IfSome result (λ it. (found ≡ Some it)
         ⊎ ((it.0 ≡ i) × (here ≡ Some it.1))) }
+    ensures found { IfSome result (λ it. IfSome found (λ other.
+        it.1.round.view.0 ≤ other.1.round.view.0)) }
+    ensures here { IfSome result (λ it. IfSome here (λ other.
+        it.1.round.view.0 ≤ other.round.view.0)) }
 {
     match (found, here) {
         (Some((at, lowest)), Some(proposal)) => {

@@ -7,12 +7,14 @@ ghost use Rattle.batcher_bytes.specs.Keys.{same_digest};
 ghost use Rattle.batcher_bytes.specs.Messages.{certificate_format, sha256_format, vote_format};
 ghost use Rattle.batcher_journal.specs.Causes.{Cause};
 ghost use Rattle.batcher_validator.specs.Disks.{disk_of, under_way_of};
+ghost use Rattle.batcher_validator.specs.Unstarted.{HasNoVoter};
 ghost use Rattle.batcher_journal.specs.Text.{IsText, fields_of};
 ghost use Rattle.batcher_journal.specs.declared.journal.OpenFault.{OpenFault as TheOpenFault};
 ghost use Rattle.batcher_journal.specs.Ready.{begun};
 ghost use Rattle.batcher_validator.specs.Running.{HasBegun};
 ghost use Rattle.batcher_node.specs.Windows.{numbered};
 ghost use Rattle.batcher_voter.specs.Remembering.{IsLeft, Remembers};
+ghost use Rattle.batcher_voter.specs.declared.answers.StartFault.{StartFault as TheStartFault};
 
 use crate::Validator;
 use crate::looping::Loop;
@@ -96,6 +98,8 @@ impl<T: Truth> Loop<T> {
         ensures cause { (fault : TheOpenFault) → result ≡ Err (LoopFault.NotOpened fault) → Cause
             (vote_format signature_format sha256_format) bytes.items (fields_of owner.now)
             same_digest fault }
+        ensures why { (fault : TheStartFault) → result ≡ Err (LoopFault.NotStarted fault)
+            → HasNoVoter (fields_of owner.now) bytes.items fault }
         ensures on_disk { IfOk result (λ it. (disk_of it.validator ≡ bytes.items)
             × (under_way_of it.validator ≡ None)) }
         ensures scheme { IfOk result (λ it. it.validator.voter.node.scheme ≡ scheme.value) }
@@ -139,6 +143,8 @@ impl<T: Truth> Loop<T> {
         ensures cause { (fault : TheOpenFault) → result ≡ Err (LoopFault.NotOpened fault) → Cause
             (vote_format signature_format sha256_format) log.bytes (fields_of owner.now)
             same_digest fault }
+        ensures why { (fault : TheStartFault) → result ≡ Err (LoopFault.NotStarted fault)
+            → HasNoVoter (fields_of owner.now) log.bytes fault }
         ensures on_disk { IfOk result (λ it. it.validator.voter.journal.log.copy ≡ log.copy) }
         ensures scheme { IfOk result (λ it. it.validator.voter.node.scheme ≡ scheme.value) }
         ensures epoch { IfOk result (λ it. it.validator.voter.node.epoch

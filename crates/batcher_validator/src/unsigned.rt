@@ -6,8 +6,8 @@ ghost use Rattle.batcher_validator.specs.Unsigned.{nothing_unsigned, with_refuse
 
 use batcher::messages::Subject;
 
-/// Of each kind the highest view of which a signature was refused, since all was to be sent again.
-/// Nothing of the kind is given to be signed, of that view or an earlier one.
+/// Of each kind the highest view of which a signature was refused, since what was sent was to be
+/// again. Nothing of the kind is given to be signed, of that view or an earlier one.
 #[derive(Clone, Copy)]
 pub(crate) struct Unsigned {
     pub(crate) notarize: Option<u64>,

@@ -2,6 +2,7 @@
 
 ghost use Rattle.std.specs.Prelude.{◌≡◌, ◌≤◌, ◌<◌, ◌⊎◌, ◌^◌, [], All, false, Contains, IfErr, IfOk};
 ghost use Rattle.std.specs.Prelude.{IfSome, None, length, take};
+ghost use Rattle.batcher.specs.Verifiers.{certifies_itself};
 ghost use Rattle.batcher_agreement.specs.Policy.{Conduct, KeepsPolicy};
 ghost use Rattle.batcher_bytes.specs.Messages.{certificate_format};
 ghost use Rattle.batcher_validator.specs.Queues.{HasKey};
@@ -10,8 +11,10 @@ ghost use Rattle.batcher_validator.specs.Shelves.{kind_and_round};
 ghost use Rattle.batcher_validator.specs.Unsigned.{nothing_unsigned};
 ghost use Rattle.batcher_voter.specs.Remembering.{Remembers};
 ghost use Rattle.batcher_voter.specs.Reopening.{IsFinalView, IsTakenIn};
+ghost use Rattle.batcher_voter.specs.Unstarted.{WhyNotStarted};
 
 use crate::decided::Decided;
+use crate::resending::Resending;
 use crate::shelf::Shelf;
 use crate::tally::Tally;
 use crate::unsigned::Unsigned;
@@ -31,7 +34,7 @@ use std::rc::Rc;
 pub(crate) struct Intent<D: Digest> {
     // As whom it votes.
     pub(crate) me: Participant,
-    // What was given to be signed, last of all, since all was to be sent again.
+    // What was given to be signed, last of all, since what was sent was to be again.
     pub(crate) signing: Option<Subject<D>>,
     // Which signatures were refused since then.
     pub(crate) unsigned: Unsigned,
@@ -68,6 +71,8 @@ pub(crate) struct Given<D: Digest> {
     // The last view of which a proposal was given as final, or 0.
     pub(crate) announced: u64,
     pub(crate) tally: Tally,
+    // What was to be sent again, last of all.
+    pub(crate) resending: Resending,
     // The last view that was given to be entered, or 0.
     pub(crate) asked: u64,
     // Whether votes were given to be verified, and there is no answer yet.
@@ -89,6 +94,7 @@ impl<D: Digest> Model for Given<D> {
       calm = g.calm;
       announced = g.announced;
       tally = g.tally;
+      resending = g.resending;
       asked = g.asked;
       verifying = g.verifying;
       forwarding = g.forwarding;
@@ -161,6 +167,9 @@ where
         }) }
         ensures journal { IfOk result (λ it. it.voter.journal ≡ journal) }
         ensures refused { IfErr result (λ it. it.journal ≡ journal) }
+        ensures why { IfErr result (λ it. WhyNotStarted
+            (certificate_format S.Certificate.format D.format) journal.contents
+            (certifies_itself (S.meaning scheme.value)) it.fault) }
     {
         let me = journal.participant();
         let begun = journal.votes().len();
@@ -209,7 +218,8 @@ where
           blocked = blocked.items;
           calm = false;
           announced = 0;
-          tally = record { begun = begun; recast = 0; sent = 0 };
+          tally = record { begun = begun; recast = 0; sent = 0; resent = 0 };
+          resending = record { from = 0; turn = 0 };
           asked = 0;
           verifying = false;
           forwarding = None;
@@ -236,7 +246,9 @@ where
                     begun,
                     recast: 0,
                     sent: 0,
+                    resent: 0,
                 },
+                resending: Resending { from: 0, turn: 0 },
                 asked: 0,
                 verifying: false,
                 forwarding: None,
@@ -291,8 +303,9 @@ where
         votes
     }
 
-    /// The certificates that it keeps, in the order in which they came: of views from the final one
-    /// on, of each kind and view one. Send them to who fell behind.
+    /// The certificates that it keeps: of views from the final one on, of each kind and view one.
+    /// They are in the order in which they came, but for those that were given again. Send them to
+    /// who fell behind.
     pub fn certificates(&self) -> &[Certificate<S::Certificate, D>]
         ensures { result.now ≡ self.now.shelf.certificates }
     {

@@ -1,4 +1,4 @@
-use Rattle.batcher_validator.proofs.Words.{◌∙◌, ap, arith, subst, HaveNoFinal}
+use Rattle.batcher_validator.proofs.Words.{◌∙◌, ap, arith, subst, HaveNoFinal, IfSome, IsLowestFinal}
 use Rattle.batcher_validator.proofs.shelf.Shelf.final_after.Goals as goal
 
 pub returns-then-self-view-clause-none : goal.returns-then-self-view-clause-none
@@ -10,3 +10,8 @@ pub returns-clause-none : goal.returns-clause-none
 returns-clause-none g c = λ none.
     subst (HaveNoFinal c.args.view) (c.deref.ensures.value ∙ ap (λ s. s.certificates) c.self.view_is)
     (c.final_after.ensures.none none)
+
+pub returns-clause-lowest : goal.returns-clause-lowest
+returns-clause-lowest g c =
+    subst (λ cs. IfSome c.final_after.result (λ it. IsLowestFinal c.args.view cs it.1))
+    (c.deref.ensures.value ∙ ap (λ s. s.certificates) c.self.view_is) c.final_after.ensures.lowest

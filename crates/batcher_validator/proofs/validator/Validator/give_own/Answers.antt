@@ -1,4 +1,4 @@
-use Rattle.batcher_validator.proofs.Words.{◌∙◌, refl, sym, slice_get_within, node_config, same_subject-refl, voter_history}
+use Rattle.batcher_validator.proofs.Words.{refl, slice_get_within, node_config, same_subject-refl, voter_history}
 use Rattle.batcher_validator.proofs.Ending.{vote_less}
 use Rattle.batcher_validator.proofs.Giving.{contained, gives_cast, gives_enter, gives_vote, no_enter_due}
 use Rattle.batcher_validator.proofs.validator.Validator.give_own.Goals as goal
@@ -36,26 +36,28 @@ returns-in-Some-next_cast-clause-ready g c =
 pub returns-in-Some-next_vote-clause-gives : goal.returns-in-Some-next_vote-clause-gives
 returns-in-Some-next_vote-clause-gives g c =
     let old = c.args.self.now in
+    let it = c.in-Some-next_vote.ensures.some in
     gives_vote (node_config g.S.Scheme.meaning g.S.PublicKey.Ord.cmp g.S.Signature.PartialEq.eq
     g.D.PartialEq.eq old.voter.node) old c.note_vote.new.self c.note_vote.ensures.voter
     c.in-Some-next_vote.vote (same_subject-refl g.D.PartialEq.eq g.met.D.Eq.laws.refl) c.requires.open
-    c.requires.followed old.given.tally.sent (sym c.next_vote.ensures ∙ c.in-Some-next_vote.is)
-    c.note_vote.ensures.shelf refl c.note_vote.ensures.given
+    c.requires.followed c.in-Some-next_vote.place it.0
+    c.note_vote.ensures.shelf c.place_behind-next.result it.1 c.place_behind-next.ensures
+    c.note_vote.ensures.given
 
 pub returns-in-Some-next_vote-clause-ready : goal.returns-in-Some-next_vote-clause-ready
 returns-in-Some-next_vote-clause-ready g c =
     let old = c.args.self.now in (
       c.requires.open,
-      contained old.voter.journal.contents.votes old.given.tally.sent c.in-Some-next_vote.vote
-          (sym c.next_vote.ensures ∙ c.in-Some-next_vote.is),
+      contained old.voter.journal.contents.votes c.in-Some-next_vote.place c.in-Some-next_vote.vote
+          c.in-Some-next_vote.ensures.some.0,
     )
 
 pub returns-in-Some-next_vote-clause-less : goal.returns-in-Some-next_vote-clause-less
 returns-in-Some-next_vote-clause-less g c =
     let old = c.args.self.now in
+    let it = c.in-Some-next_vote.ensures.some in
     vote_less (node_config g.S.Scheme.meaning g.S.PublicKey.Ord.cmp g.S.Signature.PartialEq.eq
     g.D.PartialEq.eq old.voter.node) old c.note_vote.new.self c.note_vote.ensures.voter
-    c.note_vote.ensures.shelf c.in-Some-next_vote.vote
-    (slice_get_within old.voter.journal.contents.votes old.given.tally.sent c.in-Some-next_vote.vote
-    (sym c.next_vote.ensures ∙ c.in-Some-next_vote.is))
-    c.note_vote.ensures.given
+    c.note_vote.ensures.shelf c.in-Some-next_vote.vote c.in-Some-next_vote.place c.place_behind-next.result
+    (slice_get_within old.voter.journal.contents.votes c.in-Some-next_vote.place c.in-Some-next_vote.vote it.0)
+    it.1 c.place_behind-next.ensures c.note_vote.ensures.given

@@ -29,11 +29,11 @@ pub returns-clause-none : goal.returns-clause-none
 returns-clause-none g c = λ none.
     let config = node_config g.S.Scheme.meaning g.S.PublicKey.Ord.cmp g.S.Signature.PartialEq.eq g.D.PartialEq.eq in
     let old = c.args.self.now in
-    all_views config old c.begins.ensures.view refl
+    all_views config old c.last_parent-view-end.result c.last_parent-view-end.ensures refl
     (elim c.loop-view-test.branch [
-      | else-loop-view-test w ↦ λ k lt. c.loop-view.invariant k (omega (arith, lt, c.highest-view-end.ensures, w.loop-view-test.false))
+      | else-loop-view-test w ↦ λ k lt. c.loop-view.invariant k (omega (arith, lt, w.loop-view-test.false))
       | then-loop-view-test+in-None+else-view-view-end w ↦ λ k lt. one_more
           (λ n. (p : Proposal g.row.D.Denot) → p.round.view.0 ≡ n → IsNotToSign config old (Finalize p))
           c.loop-view.view c.loop-view.invariant (w.to_finalize_in.ensures.none w.in-None.is) k
-          (omega (arith, lt, c.highest-view-end.ensures))
+          (omega (arith, lt))
     ])

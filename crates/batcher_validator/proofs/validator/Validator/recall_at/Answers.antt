@@ -1,5 +1,9 @@
 use Rattle.batcher_validator.proofs.Words.{certificate_format, node_config}
 use Rattle.batcher_validator.proofs.Reading.{recalls_one, same_at_place}
+use Rattle.batcher_validator.proofs.Words.{[], subst, certifies_itself, Certified}
+use Rattle.std.specs.Prelude.{slice_index_or}
+use Rattle.batcher_voter.proofs.Unstarted.{at_place, beside_unlearned}
+use Rattle.batcher_voter.specs.Unstarted.{WhyNotLearned}
 use Rattle.batcher_validator.proofs.validator.Validator.recall_at.Goals as goal
 
 pub returns-in-Ok-recall_one-clause-recalls : goal.returns-in-Ok-recall_one-clause-recalls
@@ -12,3 +16,16 @@ returns-in-Ok-recall_one-clause-recalls g c =
 
 pub recall_one-requires : goal.recall_one-requires
 recall_one-requires g c = c.in-Ok.ensures.there
+
+pub returns-in-Err-recall_one-clause-why : goal.returns-in-Err-recall_one-clause-why
+returns-in-Err-recall_one-clause-why g c =
+    let format = certificate_format g.S.Certificate.OwnedCodec.format g.D.Codec.format in
+    let old = c.args.self.now in
+    let contents = old.voter.journal.contents in
+    let certifies = certifies_itself (g.S.Scheme.meaning old.voter.node.scheme) in
+    let d : Certified = (contents.floor, []) in
+    let read = c.in-Ok.ensures.read d in
+    beside_unlearned format certifies contents (slice_index_or contents.certificates c.args.i d)
+    (at_place format certifies contents c.args.i d c.requires) c.in-Ok.certificate read.decoded c.in-Err-recall_one.fault
+    (subst (λ r. WhyNotLearned certifies r c.in-Ok.certificate c.in-Err-recall_one.fault) read.of_round
+    c.in-Err-recall_one.ensures.why)

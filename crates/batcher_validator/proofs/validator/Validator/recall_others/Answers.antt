@@ -1,6 +1,8 @@
 use Rattle.batcher_validator.proofs.Words.{◌∙◌, refl, subst, certificate_format, node_config, IsAtPlace, Recalls}
 use Rattle.batcher_validator.proofs.Reading.{bytes_more, none_at_first, recalls_both, recalls_none}
 use Rattle.batcher_voter.proofs.Reopening.{stays_both}
+use Rattle.batcher_validator.proofs.Words.{ap, certifies_itself, length, sym, ◌<◌}
+use Rattle.batcher_voter.specs.Unstarted.{WhyNotStarted}
 use Rattle.batcher_validator.proofs.validator.Validator.recall_others.Goals as goal
 
 pub loop-i-init : goal.loop-i-init
@@ -43,3 +45,19 @@ loop-i-preserved g c =
         ),
       ),
     )
+
+pub recall_at-requires : goal.recall_at-requires
+recall_at-requires g c =
+    subst (λ j. c.loop-i.i < length j.contents.certificates) (sym c.loop-i.invariant.1.1.0)
+    (subst (λ xs. c.loop-i.i < length xs) (c.certificates-i-end.ensures
+    ∙ (ap (λ j. j.contents.certificates) c.journal.ensures ∙ ap (λ v. v.voter.journal.contents.certificates) c.self.view_is))
+    c.loop-i-test.true)
+
+pub returns-in-Err-clause-why : goal.returns-in-Err-clause-why
+returns-in-Err-clause-why g c =
+    let format = certificate_format g.S.Certificate.OwnedCodec.format g.D.Codec.format in
+    let before = c.loop-i.invariant in
+    subst (λ n. WhyNotStarted format c.args.self.now.voter.journal.contents
+    (certifies_itself (g.S.Scheme.meaning n.scheme)) c.in-Err.fault) before.1.0
+    (subst (λ j. WhyNotStarted format j.contents (certifies_itself (g.S.Scheme.meaning c.loop-i.self.voter.node.scheme))
+    c.in-Err.fault) before.1.1.0 c.in-Err.ensures.why)

@@ -1,5 +1,5 @@
 use Rattle.batcher_validator.proofs.Words.{certificate_came, called, node_config, did}
-use Rattle.batcher_validator.proofs.Going.{runs_roomy, stays_roomy}
+use Rattle.batcher_validator.proofs.Going.{runs_roomy, stays_roomy, with_room}
 use Rattle.batcher_validator.proofs.validator.Validator.receive_certificate.Goals as goal
 
 pub returns-in-Ok-receive_with_room-clause-meets : goal.returns-in-Ok-receive_with_room-clause-meets
@@ -19,3 +19,9 @@ returns-in-Err-receive_with_room-clause-stays g c =
     c.make_room.ensures.voter c.make_room.ensures.given c.make_room.ensures.certificates
     c.make_room.ensures.handed
     c.in-Err-receive_with_room.ensures.stays
+
+pub returns-in-Err-clause-stays : goal.returns-in-Err-clause-stays
+returns-in-Err-clause-stays g c =
+    with_room (node_config g.S.Scheme.meaning g.S.PublicKey.Ord.cmp g.S.Signature.PartialEq.eq g.D.PartialEq.eq
+    c.args.self.now.voter.node) c.args.self.now c.make_room.new.self
+    c.make_room.ensures.voter c.make_room.ensures.given c.make_room.ensures.certificates c.make_room.ensures.handed

@@ -2,6 +2,8 @@ use Rattle.batcher_validator.proofs.Words.{◌≡◌, ◌∙◌, ◌⊎◌, All,
 use Rattle.batcher_validator.proofs.Words.{HasStarted}
 use Rattle.batcher_validator.proofs.Beginning.{begun, has_begun, none_resized}
 use Rattle.batcher_voter.proofs.Reopening.{all_taken_in, final_stays}
+use Rattle.batcher_validator.proofs.Words.{certifies_itself}
+use Rattle.batcher_voter.specs.Unstarted.{WhyNotStarted}
 use Rattle.batcher_validator.proofs.validator.Validator.start.Goals as goal
 
 pub returns-in-Ok-recall-clause-running : goal.returns-in-Ok-recall-clause-running
@@ -44,3 +46,13 @@ returns-in-Ok-recall-clause-knows_kept g c =
     c.in-Ok-recall.ensures.knows c.args.journal.contents.certificates
     (subst (λ v. All (IsTakenIn format v.node.epoch v.knowledge) c.args.journal.contents.certificates)
     (sym c.of-validator.ensures.voter) c.in-Ok-start.ensures.knows_kept))
+
+pub returns-in-Err-recall-clause-why : goal.returns-in-Err-recall-clause-why
+returns-in-Err-recall-clause-why g c =
+    let format = certificate_format g.S.Certificate.OwnedCodec.format g.D.Codec.format in
+    let first = c.of-validator.result in
+    subst (λ s. WhyNotStarted format c.args.journal.contents (certifies_itself (g.S.Scheme.meaning s))
+    c.in-Err-recall.fault) (ap (λ v. v.node.scheme) c.of-validator.ensures.voter ∙ c.in-Ok-start.ensures.scheme)
+    (subst (λ j. WhyNotStarted format j.contents (certifies_itself (g.S.Scheme.meaning first.voter.node.scheme))
+    c.in-Err-recall.fault) (ap (λ v. v.journal) c.of-validator.ensures.voter ∙ c.in-Ok-start.ensures.journal)
+    c.in-Err-recall.ensures.why)

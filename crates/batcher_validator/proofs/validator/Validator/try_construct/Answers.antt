@@ -1,5 +1,5 @@
 use Rattle.batcher_validator.proofs.Words.{node_config, answered}
-use Rattle.batcher_validator.proofs.Going.{constructs_roomy, runs_roomy, stays_roomy}
+use Rattle.batcher_validator.proofs.Going.{constructs_roomy, runs_roomy, stays_roomy, with_room}
 use Rattle.batcher_validator.proofs.validator.Validator.try_construct.Goals as goal
 
 pub returns-in-Ok-construct_with_room-clause-made :
@@ -28,3 +28,9 @@ returns-in-Err-construct_with_room-clause-stays g c =
     c.make_room.ensures.voter c.make_room.ensures.given c.make_room.ensures.certificates
     c.make_room.ensures.handed
     c.in-Err-construct_with_room.ensures.stays
+
+pub returns-in-Err-clause-stays : goal.returns-in-Err-clause-stays
+returns-in-Err-clause-stays g c =
+    with_room (node_config g.S.Scheme.meaning g.S.PublicKey.Ord.cmp g.S.Signature.PartialEq.eq g.D.PartialEq.eq
+    c.args.self.now.voter.node) c.args.self.now c.make_room.new.self
+    c.make_room.ensures.voter c.make_room.ensures.given c.make_room.ensures.certificates c.make_room.ensures.handed

@@ -1,6 +1,6 @@
 use Rattle.batcher_validator.proofs.Words.{ap, refl, node_config}
 use Rattle.batcher_validator.proofs.Going.{run_stays, takes_in}
-use Rattle.batcher_validator.proofs.validator.Validator.catch_up_with_room.Goals as goal
+use Rattle.batcher_validator.proofs.validator.Validator.take_in_with_room.Goals as goal
 
 pub returns-in-Ok-clause-took : goal.returns-in-Ok-clause-took
 returns-in-Ok-clause-took g c =

@@ -1,6 +1,6 @@
 use Rattle.batcher_validator.proofs.Words.{◌∙◌, subst, HasKey, kind_and_round}
 use Rattle.batcher_validator.proofs.Queueing.{key_is}
-use Rattle.batcher_validator.proofs.shelf.has_one_of.Goals as goal
+use Rattle.batcher_validator.proofs.shelf.Shelf.has_one_of.Goals as goal
 
 pub returns-in-Some : goal.returns-in-Some
 returns-in-Some g c =
@@ -12,5 +12,5 @@ returns-in-Some g c =
 
 pub returns-in-None : goal.returns-in-None
 returns-in-None g c =
-    subst (λ key. HasKey kind_and_round c.args.certificates.now key → ⊥)
-    (key_is _ _ _ _ c.kind.ensures c.round.ensures) (c.find.ensures.none c.in-None.is)
+    subst (λ key. HasKey kind_and_round c.args.self.now.certificates key → ⊥)
+    (key_is _ _ _ _ c.kind.ensures c.round.ensures) (c.get.ensures.none c.in-None.is)
