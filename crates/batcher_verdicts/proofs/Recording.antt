@@ -2,7 +2,7 @@
 use Rattle.batcher_verdicts.proofs.Words.{◌≡◌, inl, inr, ◌++◌, ◌-◌, ◌+◌, ◌∙◌, ℕ, Bool, List, [], length, take, drop, map, Option, None, Some, IfSome, sym, ap}
 use Rattle.batcher_verdicts.proofs.Words.{subst, take-length, append-nil, append_cancel_left, length-drop, length-append, map-append, take-map, append_assoc}
 use Rattle.batcher_verdicts.proofs.Words.{Attestation, Subject, Notarization, Nullification, Finalization, PerKind, AllTrue, Recorded, Begins, Asks, IsKnown}
-use Rattle.batcher_verdicts.proofs.Words.{AreTrue, AddsVerdicts}
+use Rattle.batcher_verdicts.proofs.Words.{AreTrue, AddsVerdicts, VerdictsNeed, ◌≤◌, ◌<◌, arith}
 
 -- what is left of a list, as a slice of it
 pub rest_is : {X : Type 0} (xs : List X) (n : ℕ) → take (length xs - n) (drop n xs) ≡ drop n xs
@@ -78,47 +78,6 @@ module _ {G D : Type 0} (r : Recorded G D) (subject : Subject D) (waiting : List
           anew = alone n new.list new.verdicts known (list_is, verdicts_are);
         }
 
-    -- as many verdicts as attestations are kept
-    pub even_after : (all : List (Attestation G)) (of_all : List Bool)
-        → length verdicts ≡ length list → all ≡ take n r.list ++ list
-        → of_all ≡ take n r.verdicts ++ verdicts → length of_all ≡ length all
-    even_after all of_all one_each list_is verdicts_are =
-        even_by n known all of_all one_each (list_is, verdicts_are)
-      where
-        even_by : (n : ℕ) → IsKnown r subject waiting n → (all : List (Attestation G))
-            (of_all : List Bool) → length verdicts ≡ length list → IsAfter n all of_all
-            → length of_all ≡ length all
-        even_by n (inl h) all of_all one_each are =
-            let both = kept_after n all of_all (inl h) are (drop n waiting) h.1 in
-            ap length both.1 ∙ length-append r.verdicts verdicts
-            ∙ ap (λ k. k + length verdicts) even ∙ ap (λ k. length r.list + k) one_each
-            ∙ sym (length-append r.list list) ∙ ap length (sym both.0)
-        even_by n (inr h) all of_all one_each are =
-            let both = alone n all of_all (inr h) are h.1 in
-            ap length both.1 ∙ one_each ∙ ap length (sym both.0)
-
-    module _ (attests : Subject D → Attestation G → Bool) (true_before : AreTrue attests r)
-        (true_now : verdicts ≡ map (attests subject) list) where
-      true_by : (n : ℕ) (all : List (Attestation G)) (of_all : List Bool)
-          → IsKnown r subject waiting n → IsAfter n all of_all → of_all ≡ map (attests subject) all
-      true_by n all of_all (inl h) are =
-          let both = kept_after n all of_all (inl h) are (drop n waiting) h.1 in
-          let before : r.verdicts ≡ map (attests subject) r.list =
-          subst (λ o. IfSome o (λ s. r.verdicts ≡ map (attests s) r.list)) h.1.about true_before in
-          both.1 ∙ ap (λ l. l ++ verdicts) before
-          ∙ ap (λ l. map (attests subject) r.list ++ l) true_now
-          ∙ sym (map-append (attests subject) r.list list)
-          ∙ ap (map (attests subject)) (sym both.0)
-      true_by n all of_all (inr h) are =
-          let both = alone n all of_all (inr h) are h.1 in
-          both.1 ∙ true_now ∙ ap (map (attests subject)) (sym both.0)
-
-      pub true_after : (all : List (Attestation G)) (of_all : List Bool)
-          → all ≡ take n r.list ++ list → of_all ≡ take n r.verdicts ++ verdicts
-          → of_all ≡ map (attests subject) all
-      true_after all of_all list_is verdicts_are =
-          true_by n all of_all known (list_is, verdicts_are)
-
 module _ {G D : Type 0} (r : Recorded G D) (subject : Subject D) (waiting : List (Attestation G)) where
   -- where nothing is asked about, what is recorded is on all that waits
   pub whole_list : (n : ℕ) → IsKnown r subject waiting n → Asks r subject waiting []
@@ -156,12 +115,12 @@ module _ {G D : Type 0} (r : Recorded G D) (subject : Subject D) (waiting : List
       ap (λ k. take k r.verdicts) h.0 ∙ sym (ap (λ k. map (attests subject) (take k r.list)) h.0)
 
 -- where none is recorded, none is wrong
-pub none_true : {G D : Type 0} (attests : Subject D → Attestation G → Bool) (r : Recorded G D)
-    → r.list ≡ [] → r.verdicts ≡ [] → AreTrue attests r
-none_true {D = D} attests r list verdicts = by_subject r.subject where
-  by_subject : (o : Option (Subject D)) → IfSome o (λ s. r.verdicts ≡ map (attests s) r.list)
-  by_subject (Some s) = verdicts ∙ sym (ap (map (attests s)) list)
-  by_subject None = tt
+pub none_true : {G D : Type 0} (attests : Subject D → Attestation G → Bool)
+    (about : Option (Subject D)) (all : List (Attestation G)) (of_all : List Bool) → all ≡ []
+    → of_all ≡ []
+    → IfSome about (λ s. of_all ≡ map (attests s) all)
+none_true attests (Some s) all of_all list verdicts = verdicts ∙ sym (ap (map (attests s)) list)
+none_true attests None all of_all list verdicts = tt
 
 pub each_true : {G D : Type 0} (attests : Subject D → Attestation G → Bool)
     (all : PerKind (Recorded G D)) → AreTrue attests all.notarize → AreTrue attests all.nullify
@@ -169,3 +128,21 @@ pub each_true : {G D : Type 0} (attests : Subject D → Attestation G → Bool)
 each_true attests all notarize nullify finalize Notarization = notarize
 each_true attests all notarize nullify finalize Nullification = nullify
 each_true attests all notarize nullify finalize Finalization = finalize
+
+-- Where there is no room for verdicts on a list behind those that were recorded, the list isn't
+-- empty, and there is none for all that waits.
+pub verdicts_need : {G D : Type 0} (r : Recorded G D) (subject : Subject D)
+    (waiting list rest : List (Attestation G)) (n : ℕ) → IsKnown r subject waiting n
+    → drop n waiting ≡ list ++ rest → n ≤ length waiting → n ≤ length r.list
+    → length r.list ≤ r.room → r.room < n + length list → VerdictsNeed r subject waiting list
+verdicts_need r subject waiting list rest n known next within recorded kept lacks =
+    let long : length waiting - n ≡ length list + length rest =
+    sym (length-drop n waiting) ∙ ap length next ∙ length-append list rest in
+    record {
+      some = omega (arith, recorded, kept, lacks);
+      asked = (
+        rest,
+        subst (Asks r subject waiting) next (asks_rest r subject waiting n known),
+      );
+      no_room = omega (arith, long, within, lacks);
+    }

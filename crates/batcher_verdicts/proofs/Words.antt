@@ -8,7 +8,7 @@ pub use Rattle.std.proofs.lemmas.List.Elements.{filter-append}
 pub use Rattle.std.proofs.lemmas.Option.{same_Some}
 pub use Rattle.std.specs.Option.{option_map}
 pub use Rattle.std.specs.Prelude.{◌≡◌, ℕ, List, [], take, Some, Result, Ok, Err, Option, None, IfSome, OnErr, ◌++◌, ◌-◌, ◌+◌, Bool, length, drop, map, true}
-pub use Rattle.std.specs.Prelude.{is_some, ◌⊎◌, ◌≤◌, ◌&&◌, ◌||◌, false, not, cond, ◌∷◌, filter}
+pub use Rattle.std.specs.Prelude.{is_some, ◌⊎◌, ◌<◌, ◌≤◌, ◌&&◌, ◌||◌, false, not, cond, ◌∷◌, filter}
 pub use Rattle.batcher_histories.proofs.History.Past.{open_eligible}
 pub use Rattle.batcher_histories.specs.Config.{Config, quorum_in}
 pub use Rattle.batcher_histories.specs.Eligible.{fresh_votes, eligible_votes, eligible_among, is_trusted, was_eligible, trials}
@@ -33,7 +33,7 @@ pub use Rattle.batcher_types.specs.declared.messages.Subject.{Subject}
 pub use Rattle.batcher_types.specs.declared.messages.Vote.{Vote}
 pub use Rattle.batcher_types.specs.declared.messages.Vote.TheVariants.{Notarize as NotarizeVote, Nullify as NullifyVote, Finalize as FinalizeVote}
 pub use Rattle.batcher_verdicts.specs.Nodes.{AreCompleteThere, KnownThere}
-pub use Rattle.batcher_verdicts.specs.Recorded.{Recorded, Asks, IsKnown, Begins, AreTrue, AddsVerdicts}
+pub use Rattle.batcher_verdicts.specs.Recorded.{Recorded, Asks, IsKnown, Begins, AreTrue, AddsVerdicts, VerdictsNeed}
 pub use Rattle.batcher_verdicts.specs.Rounds.{recorded_of, AsksNext, AllTrue, AreComplete, kind_attested}
 pub use Rattle.batcher_verdicts.specs.Waiting.{GoesOnWaiting, VerdictsStay}
 pub use Rattle.batcher_verdicts.specs.Wholes.{IsWhole}

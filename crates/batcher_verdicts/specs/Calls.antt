@@ -42,7 +42,7 @@ use Rattle.batcher_bytes.specs.Meanings.{made_of}
 use Rattle.batcher_bytes.specs.declared.certificates.Content.{Content}
 use Rattle.batcher_bytes.specs.declared.signature.Keys.{Keys}
 use Rattle.batcher_bytes.specs.declared.signature.Signature.{Signature}
-use Rattle.batcher_verdicts.specs.Rounds.{AreComplete, AsksNext, ForgetsVerdicts}
+use Rattle.batcher_verdicts.specs.Rounds.{AreComplete, AsksNext, ForgetsVerdicts, RecordingNeeds}
 use Rattle.batcher_verdicts.specs.Rounds.{Records as RecordsVerdicts}
 use Rattle.batcher_verdicts.specs.declared.own.OwnRefusal.{OwnRefusal}
 use Rattle.batcher_verdicts.specs.declared.own.OwnRefusal.TheVariants.{Elsewhere, Fault}
@@ -107,6 +107,7 @@ module _ {T : Type 0} (x : BytesConfig T) (old : Held) where
       pub not_stale : (rest : List (Attestation Signature))
           → AsksNext x old.round old.verdicts subject (list ++ rest)
           → IfOk answer (λ is_next. is_next ≡ true)
+      pub needed : OnErr answer (RecordingNeeds x old.round old.verdicts subject list)
       pub stale : answer ≡ Ok false → new ≡ old
       pub refused : OnErr answer (new ≡ old)
       pub round : new.round ≡ old.round
@@ -143,6 +144,7 @@ module _ {T : Type 0} (x : BytesConfig T) (old : Held) where
       pub meets : IfGiven answer
           (λ batch. RoundGoesOn (Construct, ConstructAnswer (Some batch)) new)
       pub certifies : IfGiven answer (BatchCertifies x.meaning)
+      pub needed : OnErr answer (MayBeWhole x old.round subject list)
       pub waits : answer ≡ Ok None → new ≡ old
       pub refused : OnErr answer (new ≡ old)
       pub verdicts : new.verdicts ≡ old.verdicts

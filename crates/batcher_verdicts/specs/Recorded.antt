@@ -1,14 +1,15 @@
 -- Verdicts that are recorded, of one kind: on attestations that wait for a subject.
-use Rattle.std.specs.Prelude.{◌≡◌, ◌⊎◌, ℕ, Bool, List, ◌++◌, length, drop, map, Option, Some}
-use Rattle.std.specs.Prelude.{IfSome}
+use Rattle.std.specs.Prelude.{◌≡◌, ◌<◌, ◌≤◌, ◌⊎◌, ℕ, Bool, List, ◌++◌, length, drop, map, Option}
+use Rattle.std.specs.Prelude.{Some, IfSome}
 use Rattle.batcher_types.specs.declared.messages.Attestation.{Attestation}
 use Rattle.batcher_types.specs.declared.messages.Subject.{Subject}
 
--- a verdict on each attestation of a list
+-- a verdict on each attestation of a list, and of how many there is room
 pub record Recorded (G D : Type 0) : Type 0 where
   pub subject : Option (Subject D)
   pub list : List (Attestation G)
   pub verdicts : List Bool
+  pub room : ℕ
 
 module _ {G D : Type 0} where
   -- Of what waits for the subject a verdict is recorded on the first ones, and on none of these
@@ -36,6 +37,14 @@ module _ {G D : Type 0} where
         → asked ≡ others
     pub all : ((others : List (Attestation G)) → Begins r subject waiting others → ⊥)
         → asked ≡ waiting
+
+  -- Memory is needed for verdicts on a list, of what is asked about first: it isn't empty, and
+  -- there is no room for a verdict on each that waits.
+  pub record VerdictsNeed (r : Recorded G D) (subject : Subject D)
+      (waiting list : List (Attestation G)) : Type 0 where
+    pub some : 1 ≤ length list
+    pub asked : (rest : List (Attestation G)) × Asks r subject waiting (list ++ rest)
+    pub no_room : r.room < length waiting
 
   -- Verdicts on a list, of what is asked about first, are recorded after those that there are on
   -- what waits for the subject.

@@ -9,7 +9,7 @@ use Rattle.batcher_types.specs.declared.messages.Subject.TheVariants.{Notarize, 
 use Rattle.batcher_votes.specs.RoundState.{PerKind, of_kind, RoundState}
 use Rattle.batcher_histories.specs.Config.{Config}
 use Rattle.batcher_round.specs.Next.{subject_next, pending_next}
-use Rattle.batcher_verdicts.specs.Recorded.{Recorded, Asks, AreTrue, AddsVerdicts}
+use Rattle.batcher_verdicts.specs.Recorded.{Recorded, Asks, AreTrue, AddsVerdicts, VerdictsNeed}
 
 -- the kind of the votes that attest it
 abbrev pub kind_attested : {D : Type 0} → Subject D → Kind
@@ -47,6 +47,13 @@ module _ {G D : Type 0} where
     pub adds : AddsVerdicts (recorded_of old subject) (recorded_of new subject) subject
         (pending_next x held) list verdicts
     pub others : (kind : Kind) → kind ≢ kind_attested subject → of_kind new kind ≡ of_kind old kind
+
+  -- Memory is needed to record them.
+  pub record RecordingNeeds {K C : Type 0} (x : Config D K G C) (held : RoundState G D)
+      (all : PerKind (Recorded G D)) (subject : Subject D) (list : List (Attestation G))
+      : Type 0 where
+    pub next : subject_next x held ≡ Some subject
+    pub needs : VerdictsNeed (recorded_of all subject) subject (pending_next x held) list
 
   -- Those on what attests the subject are forgotten, and all on other kinds stay.
   pub record ForgetsVerdicts (old new : PerKind (Recorded G D)) (subject : Subject D) : Type 0 where

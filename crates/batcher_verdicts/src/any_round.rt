@@ -1,6 +1,6 @@
 //! A round over either sort of scheme.
 
-ghost use Rattle.std.specs.Prelude.{◌≡◌, ◌≤◌, [], IfOk, IfSome, IfNone, length};
+ghost use Rattle.std.specs.Prelude.{◌≡◌, ◌≤◌, [], IfOk, IfSome, IfNone, OnErr, length};
 ghost use Rattle.batcher.specs.Represents.{Represents};
 ghost use Rattle.batcher_types.specs.declared.messages.Kind.{Kind as TheKind};
 ghost use Rattle.batcher_votes.specs.RoundState.{of_kind};
@@ -64,6 +64,7 @@ impl<T: Truth> AnyRound<T> {
             (config_in T.Truth r).mode ≡ mode)) }
         ensures unknown { IfOk result (λ made. IfSome made (λ r. (kind : TheKind)
             → (of_kind (held_in r).verdicts kind).list ≡ [])) }
+        ensures needed { OnErr result (1 ≤ participants) }
         ensures represents { IfOk result (λ made. IfSome made (λ r.
             Represents (config_in T.Truth r) [] (held_in r).round)) }
     {

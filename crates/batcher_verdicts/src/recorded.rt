@@ -1,10 +1,11 @@
 //! The verdicts of one kind.
 
-ghost use Rattle.std.specs.Prelude.{◌≡◌, ◌≤◌, ◌↔◌, ◌++◌, [], true, false, Bool, List, length, map};
-ghost use Rattle.std.specs.Prelude.{take, None, Ok, IfOk, OnErr, IsTrue};
+ghost use Rattle.std.specs.Prelude.{◌≡◌, ◌<◌, ◌≤◌, ◌↔◌, ◌+◌, ◌++◌, [], true, false, Bool, List};
+ghost use Rattle.std.specs.Prelude.{length, map, take, None, Some, Ok, IfOk, OnErr, OnOk, IsTrue};
 ghost use Rattle.batcher_types.specs.declared.messages.Attestation.{Attestation as TheAttestation};
 ghost use Rattle.batcher_types.specs.declared.messages.Subject.{Subject as TheSubject};
 ghost use Rattle.batcher_verdicts.specs.Recorded.{Asks, IsKnown, AreTrue, AddsVerdicts};
+ghost use Rattle.batcher_verdicts.specs.Recorded.{VerdictsNeed};
 
 use batcher_types::messages::{Attestation, Digest, Identical, Subject, are_identical};
 use std::alloc::{AllocError, Global};
@@ -16,10 +17,13 @@ pub(crate) struct KindVerdicts<G, D> {
     subject: Option<Subject<D>>,
     list: Vec<Attestation<G>>,
     verdicts: Vec<bool>,
+    // For so many there is room in both.
+    room: usize,
 }
 
 impl<G, D> Model for KindVerdicts<G, D> {
-    ghost use Rattle.std.specs.Prelude.{◌≡◌, length};
+    ghost use Rattle.std.specs.Prelude.{◌≡◌, ◌≤◌, length};
+    ghost use Rattle.std.specs.Vec.{vec_capacity};
     ghost use Rattle.batcher_verdicts.specs.Recorded.{Recorded};
 
     ghost Value = { Recorded G D };
@@ -28,9 +32,12 @@ impl<G, D> Model for KindVerdicts<G, D> {
       subject = k.subject;
       list = k.list.items;
       verdicts = k.verdicts.items;
+      room = k.room;
     } };
 
-    ghost invariant = { λ k. length k.verdicts.items ≡ length k.list.items };
+    ghost invariant = { λ k. (length k.verdicts.items ≡ length k.list.items)
+        × ((length k.list.items ≤ k.room)
+        × ((k.room ≤ vec_capacity k.list) × (k.room ≤ vec_capacity k.verdicts))) };
 }
 
 impl<G: Identical, D: Digest> KindVerdicts<G, D> {
@@ -44,6 +51,7 @@ impl<G: Identical, D: Digest> KindVerdicts<G, D> {
             subject: None,
             list: Vec::new(alloc),
             verdicts: Vec::new(alloc),
+            room: 0,
         }
     }
 
@@ -51,6 +59,9 @@ impl<G: Identical, D: Digest> KindVerdicts<G, D> {
     pub(crate) fn known(&self, subject: &Subject<D>, waiting: &[Attestation<G>]) -> usize
         ensures known { IsKnown self.now subject.now waiting.now result }
         ensures within { result ≤ length waiting.now }
+        ensures recorded { result ≤ length self.now.list }
+        ensures even { length self.now.verdicts ≡ length self.now.list }
+        ensures room { length self.now.list ≤ self.now.room }
     {
         let Some(about) = &self.subject else {
             return 0;
@@ -116,6 +127,7 @@ impl<G: Identical, D: Digest> KindVerdicts<G, D> {
         ensures truths { (attests : TheSubject D → TheAttestation G → Bool)
             → AreTrue attests self.old → verdicts.now ≡ map (attests subject.now) list.now
             → AreTrue attests self.new }
+        ensures needed { OnErr result (VerdictsNeed self.old subject.now waiting.now list.now) }
         ensures stale { result ≡ Ok false → self.new ≡ self.old }
         ensures refused { OnErr result (self.new ≡ self.old) }
     {
@@ -123,14 +135,51 @@ impl<G: Identical, D: Digest> KindVerdicts<G, D> {
         if !begins(list, &waiting[known..]) {
             return Ok(false);
         }
-        self.list.reserve(list.len())?;
-        self.verdicts.reserve(verdicts.len())?;
+        self.make_room(known + verdicts.len())?;
+        self.put(subject, known, list, verdicts);
+        Ok(true)
+    }
+
+    // Makes room for so many.
+    fn make_room(&mut self, count: usize) -> Result<(), AllocError>
+        ensures room { OnOk result (count ≤ self.new.room) }
+        ensures needed { OnErr result (self.old.room < count) }
+        ensures refused { OnErr result (self.new ≡ self.old) }
+        ensures subject { self.new.subject ≡ self.old.subject }
+        ensures list { self.new.list ≡ self.old.list }
+        ensures verdicts { self.new.verdicts ≡ self.old.verdicts }
+    {
+        if count <= self.room {
+            return Ok(());
+        }
+        let more = count - self.list.len();
+        self.list.reserve(more)?;
+        self.verdicts.reserve(more)?;
+        self.room = count;
+        Ok(())
+    }
+
+    // Puts verdicts on a list behind the first ones, for which there is room.
+    fn put(
+        &mut self,
+        subject: &Subject<D>,
+        known: usize,
+        list: &[Attestation<G>],
+        verdicts: &[bool],
+    )
+        requires one_each { length verdicts.now ≡ length list.now }
+        requires known { known ≤ length self.old.list }
+        requires room { known + length list.now ≤ self.old.room }
+        ensures subject { self.new.subject ≡ Some subject.now }
+        ensures list { self.new.list ≡ take known self.old.list ++ list.now }
+        ensures verdicts { self.new.verdicts ≡ take known self.old.verdicts ++ verdicts.now }
+        ensures room { self.new.room ≡ self.old.room }
+    {
         self.subject = Some(*subject);
         self.list.truncate(known);
         self.verdicts.truncate(known);
         self.list.extend_from_slice(list).unwrap();
         self.verdicts.extend_from_slice(verdicts).unwrap();
-        Ok(true)
     }
 }
 

@@ -13,8 +13,9 @@ ghost use Rattle.batcher_round.specs.RoundWords.{ConstructAnswer, AfterConstruct
 ghost use Rattle.batcher_round.specs.Verdicts.{judged_config, BatchIsAssembled};
 ghost use Rattle.rand_core.specs.Stream.{Stream};
 ghost use Rattle.batcher_verdicts.specs.Recorded.{Asks, AreTrue, AddsVerdicts, IsKnown};
+ghost use Rattle.batcher_verdicts.specs.Recorded.{VerdictsNeed};
 ghost use Rattle.batcher_verdicts.specs.Rounds.{recorded_of, kind_attested, AllTrue, AreComplete};
-ghost use Rattle.batcher_verdicts.specs.Rounds.{AsksNext, ForgetsVerdicts, Records};
+ghost use Rattle.batcher_verdicts.specs.Rounds.{AsksNext, ForgetsVerdicts, RecordingNeeds, Records};
 
 use crate::recorded::KindVerdicts;
 use batcher_round::round::{Round, RoundConfigs};
@@ -112,6 +113,8 @@ impl<G: Identical, D: Digest> Verdicts<G, D> {
             → AreTrue attests (recorded_of self.old subject.now)
             → verdicts.now ≡ map (attests subject.now) list.now
             → AreTrue attests (recorded_of self.new subject.now) }
+        ensures needed { OnErr result (VerdictsNeed (recorded_of self.old subject.now) subject.now
+            waiting.now list.now) }
         ensures stale { result ≡ Ok false → self.new ≡ self.old }
         ensures refused { OnErr result (self.new ≡ self.old) }
     {
@@ -182,6 +185,8 @@ impl<G: Identical, D: Digest> Verdicts<G, D> {
         ensures truths { (attests : TheSubject D → TheAttestation G → Bool)
             → AllTrue attests self.old → verdicts.now ≡ map (attests subject) list.now
             → AllTrue attests self.new }
+        ensures needed { OnErr result (RecordingNeeds (⟦<S as RoundConfigs<D>>⟧.of round.now)
+            round.now.holds self.old subject list.now) }
         ensures stale { result ≡ Ok false → self.new ≡ self.old }
         ensures refused { OnErr result (self.new ≡ self.old) }
     {

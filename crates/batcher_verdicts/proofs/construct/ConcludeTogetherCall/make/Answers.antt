@@ -28,6 +28,7 @@ returns-clause-does g c = rw (sym c.judged.view_is) (
       ) e.gives;
       meets = e.meets;
       certifies = e.certifies;
+      needed = search rules;
       waits = search rules;
       refused = tt;
       verdicts = refl;
