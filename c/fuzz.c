@@ -366,6 +366,7 @@ static int one_loop_call(struct batcher_loop *loop, uint32_t participants, uint3
     struct batcher_vote vote = any_vote(participants);
     uint8_t bytes[8] = {0}, room[8], code;
     uint64_t count = 0, peer = below(10) != 0 ? vote.attestation.signer : below(300);
+    bool is_heard = batcher_loop_hears(loop, peer) == BATCHER_DONE;
     may_refuse = below(4) == 0;
     refused = false;
     vote.proposal.view = below(6);
@@ -390,6 +391,8 @@ static int one_loop_call(struct batcher_loop *loop, uint32_t participants, uint3
         code = batcher_loop_certificate(loop, peer, vote.kind, &vote.proposal, bytes, below(9), below(3) == 0);
         MADE(code);
         CHECK((code == BATCHER_MALFORMED) == (vote.kind > 2));
+        if (vote.kind <= 2) CHECK(is_heard == (code != BATCHER_DROPPED && code != BATCHER_UNKNOWN));
+        if (code == BATCHER_FORGED) CHECK(batcher_loop_hears(loop, peer) == BATCHER_DROPPED);
         return 0;
     case 5:
         code = batcher_loop_kept(loop, vote.kind, &vote.proposal, room, sizeof room, &count);

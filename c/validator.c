@@ -366,7 +366,6 @@ static void hear(uint32_t peer, const uint8_t *bytes, size_t length) {
         if (batcher_loop_certified(&loop, vote.kind, &proposal) != BATCHER_IDLE) return;
         bool good = certifies(vote.kind, &vote.proposal, bytes, length);
         batcher_loop_certificate(&loop, peer, vote.kind, &vote.proposal, bytes, length, good);
-        if (!good) is_blocked[peer] = true;
     }
 }
 

@@ -443,7 +443,7 @@ static int mistakes(void) {
     memset(&proposal, 0, sizeof proposal);
     memset(&vote, 0, sizeof vote);
     memset(&task, 0, sizeof task);
-    CHECK(batcher_loop_poll(&loop, &task) == BATCHER_NONE);
+    CHECK(batcher_loop_poll(&loop, &task) == BATCHER_NONE && batcher_loop_hears(&loop, 0) == BATCHER_NONE);
     CHECK(batcher_loop_give(&loop, 0, room, ROOM, &count, &replaces) == BATCHER_NONE);
     CHECK(batcher_loop_own_vote(&loop, 0, &vote) == BATCHER_NONE);
     CHECK(batcher_loop_held(&loop, 0, &vote.kind, &proposal, room, ROOM, &count) == BATCHER_NONE);
@@ -490,13 +490,19 @@ static int mistakes(void) {
     CHECK(batcher_loop_conclude(&loop, 0, &proposal, list, 0, &verdict, 0) == BATCHER_STALE);
     CHECK(batcher_loop_lend(&loop, 0, 0, &step, list, VALIDATORS - 1) == BATCHER_SHORT);
     CHECK(batcher_loop_lend(&loop, 0, 0, &step, list, VALIDATORS) == BATCHER_IDLE);
-    /* A certificate that is forged blocks its peer, and one from beyond the window is taken in. */
+    /* A certificate that is forged blocks its peer, and a good one from beyond the window is taken in. */
     CHECK(batcher_loop_certificate(&loop, 3, BATCHER_NULLIFICATION, &proposal, room, 9, false) == BATCHER_FORGED);
     CHECK(batcher_loop_poll(&loop, &task) == BATCHER_DONE && task.task == BATCHER_TASK_BLOCK);
     CHECK(task.participant == 3 && task.cause == BATCHER_CAUSE_CERTIFICATE);
     proposal.view = 100;
+    CHECK(batcher_loop_hears(&loop, 2) == BATCHER_DONE && batcher_loop_hears(&loop, VALIDATORS) == BATCHER_DROPPED);
     CHECK(batcher_loop_certificate(&loop, 2, BATCHER_FINALIZATION, &proposal, room, 9, false) == BATCHER_FORGED);
-    CHECK(batcher_loop_certificate(&loop, 2, BATCHER_FINALIZATION, &proposal, room, 9, true) == BATCHER_DONE);
+    CHECK(batcher_loop_hears(&loop, 2) == BATCHER_DROPPED);
+    CHECK(batcher_loop_poll(&loop, &task) == BATCHER_DONE && task.task == BATCHER_TASK_BLOCK);
+    CHECK(task.participant == 2 && task.cause == BATCHER_CAUSE_CERTIFICATE);
+    CHECK(batcher_loop_certificate(&loop, 2, BATCHER_FINALIZATION, &proposal, room, 9, true) == BATCHER_DROPPED);
+    CHECK(batcher_loop_certificate(&loop, 0, BATCHER_FINALIZATION, &proposal, room, 9, true) == BATCHER_DONE);
+    CHECK(batcher_loop_hears(&loop, 0) == BATCHER_DONE);
     CHECK(batcher_loop_kept(&loop, BATCHER_FINALIZATION, &proposal, room, 8, &count) == BATCHER_SHORT && count == 9);
     CHECK(batcher_loop_certified(&loop, 3, &proposal) == BATCHER_MALFORMED);
     CHECK(batcher_loop_certified(&loop, BATCHER_NULLIFICATION, &proposal) == BATCHER_IDLE);

@@ -404,7 +404,7 @@ uint8_t batcher_loop_vote(struct batcher_loop *validator, uint64_t peer, const s
                           struct batcher_admission *out);
 
 /* A certificate of a peer, as bytes, and whether they certify what it names. By one from beyond the window
- * a validator that fell behind goes on, since it is learned; where that is FORGED, drop its peer. */
+ * a validator that fell behind goes on, since it is learned. FORGED: its peer is given to be blocked next. */
 uint8_t batcher_loop_certificate(struct batcher_loop *validator, uint64_t peer, uint8_t kind,
                                  const struct batcher_proposal *proposal, const uint8_t *bytes,
                                  size_t bytes_length, bool certifies);
@@ -436,9 +436,13 @@ uint8_t batcher_loop_judge(struct batcher_loop *validator, const struct batcher_
                            bool valid);
 
 /* The time of the view is over, for the first time or again: it is given up, unless its proposal is
- * notarized. All votes and certificates from the final view on are sent again, and what isn't signed by then
- * is to be signed again. How far the view is says why it takes so long. */
+ * notarized. What isn't signed by then is to be signed again, and a part of what was sent is sent again: own votes
+ * of the current view, the finalization of the final view, the certificates of the two newest views, and in turn
+ * those of four others. How far the view is says why it takes so long. */
 uint8_t batcher_loop_expire(struct batcher_loop *validator, uint64_t view, struct batcher_progress *out);
+
+/* Whether what this peer sends is looked at: ask before its certificate is verified. DROPPED: it isn't. */
+uint8_t batcher_loop_hears(const struct batcher_loop *validator, uint64_t peer);
 
 /* The whole proposal of the certificate of this kind and of its round. IDLE: none is kept. */
 uint8_t batcher_loop_certified(const struct batcher_loop *validator, uint8_t kind,

@@ -3,3 +3,4 @@ mod Pointers
 mod Verified
 mod Quorums
 mod Others
+mod Unmade

@@ -2,8 +2,8 @@
 use Rattle.batcher_ffi.proofs.Words.{◌≡◌, ◌≢◌, ◌↔◌, ◌∙◌, ◌&&◌, nat_lt, ℕ, Bool, true, false, List, [], ◌∷◌, map, ap, refl, sym, list_all, list_any, is_none}
 use Rattle.batcher_ffi.proofs.Words.{length, and_parts, true≢false, length-map, Attestation, Sha256Digest, Subject, Signature, SameAny, keys_in, Batchable}
 use Rattle.batcher_ffi.proofs.Words.{OneByOne, AreIn, attestation_in, CLoop, loop_config, loop_keys, loop_participants, CRound, config_of_handle, is_short}
-use Rattle.batcher_ffi.proofs.Words.{is_attested, SHORT, FlatAttestation}
-use Rattle.std.specs.Prelude.{Some}
+use Rattle.batcher_ffi.proofs.Words.{arith, common_steps, is_attested, SHORT, FlatAttestation}
+use Rattle.std.specs.Prelude.{◌==◌, Some}
 
 pub attests_if : (r : CRound) (subject : Subject Sha256Digest) (a : Attestation Signature)
     → (config_of_handle r).meaning.attests subject a
@@ -87,6 +87,14 @@ none_missing (flat ∷ list) (x ∷ xs) is any =
     let first : attestation_in flat ≡ Some x = cc in
     let rest : map attestation_in list ≡ map Some xs = cc in
     none_missing list xs rest (rw first at any)
+
+-- Whether a list is empty.
+pub none_left : {A : Type 0} (xs : List A) → (length xs == 0) ≡ true → xs ≡ []
+none_left xs h = grind (arith, common_steps, h)
+
+pub some_left : {A : Type 0} (xs : List A) → (length xs == 0) ≡ false → xs ≢ []
+some_left [] h none = true≢false h
+some_left (x ∷ xs) h none = absurd (cc)
 
 -- Where the lists aren't short, no code says so.
 pub not_short : (code n m : ℕ) (room : List FlatAttestation) (signers_room : List ℕ) (b : Bool)

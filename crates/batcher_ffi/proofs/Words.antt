@@ -1,5 +1,5 @@
 -- What proofs of this crate use of definitions, and of lemmas from below it.
-pub use Rattle.std.proofs.Common.{arith, refl, ◌∙◌, sym, subst, lit<, ap, rules, inl}
+pub use Rattle.std.proofs.Common.{arith, refl, ◌∙◌, sym, subst, lit<, ap, rules, inl, inr}
 pub use Rattle.std.proofs.GlobalToken.{dealloc_token-Testable}
 pub use Rattle.std.proofs.lemmas.Bool.{and_parts, true≢false}
 pub use Rattle.std.proofs.lemmas.Grind.{common_steps}
@@ -20,21 +20,22 @@ pub use Rattle.batcher_bytes.specs.Keys.{same_digest}
 pub use Rattle.batcher_bytes.specs.Meanings.{made_of}
 pub use Rattle.batcher_bytes.specs.Messages.{sha256_format, vote_format}
 pub use Rattle.batcher_bytes.specs.declared.certificates.Content.{Content}
+pub use Rattle.batcher_bytes.specs.declared.fault.DecodeFault.TheVariants.{Version}
 pub use Rattle.batcher_bytes.specs.declared.signature.Keys.{Keys}
 pub use Rattle.batcher_bytes.specs.declared.signature.Signature.{Signature}
 pub use Rattle.batcher_ffi.specs.Flat.{AreIn, attestation_in, raw_in}
-pub use Rattle.batcher_ffi.specs.Loops.{start_code, CLoop, loop_config, loop_keys, loop_participants, config_by}
+pub use Rattle.batcher_ffi.specs.Loops.{AreDamaged, start_code, CLoop, loop_config, loop_keys, loop_participants, config_by}
 pub use Rattle.batcher_ffi.specs.Output.{Made, WritesCertificate, WritesContent}
 pub use Rattle.batcher_ffi.specs.Ownership.{block_owned, owned_or_null}
 pub use Rattle.batcher_ffi.specs.Rounds.{CRound, IsOfQuorum, MakesQuorum, config_of_handle, is_short}
 pub use Rattle.batcher_ffi.specs.Rows.{files_row as R}
 pub use Rattle.batcher_ffi.specs.Truths.{is_attested}
 pub use Rattle.batcher_ffi.specs.declared.caller.Caller.{Caller}
-pub use Rattle.batcher_ffi.specs.declared.codes.TheConstants.{OTHER_OWNER, SHORT}
+pub use Rattle.batcher_ffi.specs.declared.codes.TheConstants.{DAMAGED, OTHER_OWNER, OTHER_VERSION, SHORT}
 pub use Rattle.batcher_ffi.specs.declared.flat.FlatAttestation.{FlatAttestation}
 pub use Rattle.batcher_ffi.specs.declared.flat.FlatStep.{FlatStep}
 pub use Rattle.batcher_journal.specs.Causes.{Cause, IsAnothers}
-pub use Rattle.batcher_journal.specs.Text.{OwnerFields, fields_of}
+pub use Rattle.batcher_journal.specs.Text.{OwnerFields, fields_of, owner_format}
 pub use Rattle.batcher_journal.specs.declared.journal.OpenFault.{OpenFault}
 pub use Rattle.batcher_journal.specs.declared.journal.OpenFault.TheVariants.{NotBegun, OtherVersion, OtherLengths, OtherParticipant, OtherKeys, OtherNamespace}
 pub use Rattle.batcher_journal.specs.declared.journal.OpenFault.TheVariants.{OutOfMemory as NoMemoryToOpen, Malformed as NoJournal, Contradiction}
@@ -52,7 +53,9 @@ pub use Rattle.batcher_validator.specs.declared.starting.LoopFault.{LoopFault}
 pub use Rattle.batcher_validator.specs.declared.starting.LoopFault.TheVariants.{NotOpened, NotStarted, OutOfMemory as NoMemoryToStart}
 pub use Rattle.batcher_verdicts.specs.Judging.{keys_in, meaning_by, SameAny}
 pub use Rattle.batcher_verdicts.specs.declared.either.Either.TheVariants.{Batchable, OneByOne}
-pub use Rattle.batcher_voter.specs.declared.answers.StartFault.TheVariants.{OutOfMemory as NoMemoryForVoter}
+pub use Rattle.batcher_validator.specs.Unstarted.{HasNoVoter}
+pub use Rattle.batcher_voter.specs.declared.answers.StartFault.{StartFault}
+pub use Rattle.batcher_voter.specs.declared.answers.StartFault.TheVariants.{Forged, Malformed, NotFinal, OutOfMemory as NoMemoryForVoter}
 pub use Rattle.batcher_votes.specs.declared.verifier.Batch.{Batch}
 pub use Rattle.core.proofs.alloc.Calls.{Al, handle_tells, Goes-blank}
 pub use Rattle.core.proofs.alloc.Shapes.{after}

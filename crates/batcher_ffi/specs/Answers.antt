@@ -2,6 +2,8 @@
 use Rattle.std.specs.Prelude.{◌≡◌, ◌≢◌, ⊤, ℕ, false, Result, Ok, Err}
 use Rattle.batcher_types.specs.declared.messages.Sha256Digest.{Sha256Digest}
 use Rattle.batcher_histories.specs.declared.answers.Admission.{Admission}
+use Rattle.batcher_node.specs.declared.answers.Ahead.{Ahead}
+use Rattle.batcher_node.specs.declared.answers.Ahead.TheVariants.{Certified, Forged as ForgedAhead}
 use Rattle.batcher_node.specs.declared.answers.EnterFault.{EnterFault}
 use Rattle.batcher_node.specs.declared.answers.EnterFault.TheVariants.{Passed, LeaderChanged}
 use Rattle.batcher_node.specs.declared.answers.EnterFault.TheVariants.{OutOfMemory}
@@ -43,6 +45,11 @@ abbrev pub verdict_code : Verdict → ℕ
 verdict_code (Recorded selected_anew) = DONE
 verdict_code Forged = FORGED
 verdict_code KnownCertificate = KNOWN
+
+-- to one from beyond the window
+abbrev pub ahead_code : Ahead → ℕ
+ahead_code Certified = DONE
+ahead_code ForgedAhead = FORGED
 
 -- to a view with its leader
 abbrev pub enter_code : Result ⊤ EnterFault → ℕ

@@ -4,6 +4,8 @@ use Rattle.std.specs.Prelude.{◌≡◌, ◌≢◌, ◌==◌, ◌<◌, ◌≤◌
 use Rattle.std.specs.Prelude.{if◌then◌else◌, List, [], ◌∷◌, Option, Some, None, IfSome, IsSomeAnd}
 use Rattle.std.specs.Prelude.{is_some, length}
 use Rattle.std.specs.List.{slice_get}
+use Rattle.batcher_file.specs.Disks.{IsBlank}
+use Rattle.batcher_file.specs.Needing.{AddingNeeds, ReplacingNeeds}
 use Rattle.batcher_file.specs.Pairs.{HoldNone}
 use Rattle.batcher_file.specs.Plans.{IsAddition, MakesFiles, IsOpened, IsReplacement, SameBytes}
 use Rattle.batcher_file.specs.Plans.{IsTaken}
@@ -55,16 +57,20 @@ module _ (first second : List ℕ) where
   WhyNotCreated code =
       (fault : OpenFault) × ((code ≡ fault_code fault) × IsTaken first second fault)
 
--- What calls do that make files, to a handle: where they fail, it stays as it was.
+-- What calls do that make files, to a handle: where they fail, it stays as it was. Memory may be
+-- out only where something is there to be opened, or nothing is there, and something is to be made.
 module _ (old new : Option Files) (code : ℕ) (first second : List ℕ) where
   pub record OpensFiles (was turned : Bool) : Type 0 where
     pub done : code ≡ DONE → IsSomeAnd new (IsOpenedAs first second turned)
     pub refused : code ≢ DONE → (code ≡ OUT_OF_MEMORY) ⊎ WhyNotOpened first second code
+    pub empty : code ≡ NOT_BEGUN → IsBlank first × IsBlank second
+    pub blank : IsBlank first → IsBlank second → code ≡ NOT_BEGUN
     pub stays : code ≢ DONE → (new ≡ old) × (turned ≡ was)
 
   pub record CreatesFiles (bytes : List ℕ) : Type 0 where
     pub done : code ≡ DONE → IsSomeAnd new (IsCreated first second bytes)
     pub refused : code ≢ DONE → (code ≡ OUT_OF_MEMORY) ⊎ WhyNotCreated first second code
+    pub needed : code ≡ OUT_OF_MEMORY → IsBlank first × IsBlank second
     pub stays : code ≢ DONE → new ≡ old
 
 -- The change of a number, of what is to be done.
@@ -77,19 +83,23 @@ pub record AsksChange (it : Files) (code number : ℕ) (old out : FlatChange) : 
 
 module _ (before : Files) (code : ℕ) (after : Files) where
   -- Bytes are to be written. What is to be done already is done first.
-  pub record Plans (bytes : List ℕ) (IsPlanned : TwoFiles → Plan → Type 0) : Type 0 where
+  pub record Plans (IsPlanned : TwoFiles → Plan → Type 0) (IsFull Needs : Type 0) : Type 0 where
     pub codes : is_one_of (DONE ∷ UNFINISHED ∷ FULL ∷ OUT_OF_MEMORY ∷ []) code ≡ true
     pub unfinished : (code ≡ UNFINISHED) ↔ (is_some before.plan ≡ true)
     pub done : code ≡ DONE → IsSomeAnd after.plan (IsPlanned after.files)
-    pub full : code ≡ FULL → (2 ^ 63 - 2 ≤ before.files.next) ⊎ (2 ^ 40 < before.files.end)
-        ⊎ (2 ^ 40 < length bytes)
+    pub full : code ≡ FULL → IsFull
+    pub needed : code ≡ OUT_OF_MEMORY → Needs
     pub stays : code ≢ DONE → SameBytes before.files after.files × (after.plan ≡ before.plan)
 
   abbrev pub Appends : List ℕ → Type 0
-  Appends bytes = Plans bytes (IsAddition before.files bytes)
+  Appends bytes = Plans (IsAddition before.files bytes)
+      ((2 ^ 63 - 2 ≤ before.files.next) ⊎ (2 ^ 40 < before.files.end) ⊎ (2 ^ 40 < length bytes))
+      (AddingNeeds before.files bytes)
 
   abbrev pub Replaces : List ℕ → Type 0
-  Replaces bytes = Plans bytes (IsReplacement before.files bytes)
+  Replaces bytes = Plans (IsReplacement before.files bytes)
+      ((2 ^ 63 - 2 ≤ before.files.next) ⊎ (2 ^ 40 < length bytes))
+      (ReplacingNeeds before.files bytes)
 
   -- All is done that was to be.
   pub record CarriesOut : Type 0 where

@@ -1,7 +1,7 @@
 -- What the calls of a validator do whose caller verifies signatures and writes to the disk, and how
 -- its answers are written. What is said of it are the words of `batcher_validator`.
-use Rattle.std.specs.Prelude.{◌≡◌, ◌≢◌, ◌==◌, ◌<◌, ◌≤◌, ◌++◌, ◌⊎◌, ◌&&◌, ⊤, ℕ, Bool, true, false}
-use Rattle.std.specs.Prelude.{List, [], ◌∷◌, length, nat_le, not, nat_lt, Contains, MatchBool}
+use Rattle.std.specs.Prelude.{◌≡◌, ◌≢◌, ◌<◌, ◌≤◌, ◌++◌, ◌⊎◌, ◌&&◌, ⊤, ℕ, Bool, true, false}
+use Rattle.std.specs.Prelude.{List, [], ◌∷◌, cond, length, nat_lt, Contains, MatchBool}
 use Rattle.std.specs.Prelude.{MatchOption, Option, Some, None, Result, Ok, Err, IfErr, IfOk, IfSome}
 use Rattle.std.specs.Prelude.{IsSomeAnd, OnErr, OnOk, is_some, take}
 use Rattle.std.specs.List.{slice_get}
@@ -12,7 +12,6 @@ use Rattle.batcher.specs.Meaning.{Meaning}
 use Rattle.batcher.specs.RoundContracts.{round_config}
 use Rattle.batcher.specs.RoundState.{RoundView}
 use Rattle.batcher.specs.Config.{Config}
-use Rattle.batcher.specs.Verifiers.{certifies_itself}
 use Rattle.batcher.specs.calls.Call.TheVariants.{Network as NetworkCall}
 use Rattle.batcher.specs.answers.Admission.{Admission}
 use Rattle.batcher_types.specs.Votes.{attestation_of, round_in}
@@ -33,13 +32,15 @@ use Rattle.batcher_bytes.specs.Encodings.{ProofView, proof_format, signature_for
 use Rattle.batcher_bytes.specs.Keys.{same_digest}
 use Rattle.batcher_bytes.specs.Kept.{proof_of, proved_at_once, vouches}
 use Rattle.batcher_bytes.specs.Listings.{attests}
+use Rattle.batcher_bytes.specs.declared.fault.DecodeFault.TheVariants.{Version}
 use Rattle.batcher_bytes.specs.declared.signature.Keys.{Keys}
 use Rattle.batcher_bytes.specs.declared.signature.Signature.{Signature}
 use Rattle.batcher_bytes.specs.declared.signature.TheConstants.{WIDTH}
 use Rattle.batcher_bytes.specs.declared.signed.Signed.{Signed}
 use Rattle.batcher_bytes.specs.Messages.{certificate_format, sha256_format, vote_format}
-use Rattle.batcher_journal.specs.Causes.{IsAnothers}
-use Rattle.batcher_journal.specs.Text.{Contents, IsText, OwnerFields}
+use Rattle.batcher_bytes.specs.declared.fault.DecodeFault.TheVariants.{Version}
+use Rattle.batcher_journal.specs.Causes.{AreNoText, Contradicts, IsAnothers}
+use Rattle.batcher_journal.specs.Text.{Contents, IsText, OwnerFields, owner_format}
 use Rattle.batcher_journal.specs.declared.journal.OpenFault.{OpenFault}
 use Rattle.batcher_journal.specs.declared.journal.OpenFault.TheVariants.{NotBegun, OtherVersion}
 use Rattle.batcher_journal.specs.declared.journal.OpenFault.TheVariants.{OtherLengths}
@@ -49,6 +50,7 @@ use Rattle.batcher_journal.specs.declared.journal.OpenFault.TheVariants.{OutOfMe
 use Rattle.batcher_journal.specs.declared.journal.OpenFault.TheVariants.{Malformed as NoJournal}
 use Rattle.batcher_journal.specs.declared.journal.OpenFault.TheVariants.{Contradiction}
 use Rattle.batcher_validator.specs.Disks.{IsAllWritten, disk_of, log_of, under_way_of}
+use Rattle.batcher_validator.specs.Unstarted.{HasNoVoter}
 use Rattle.batcher_validator.specs.Disks.{with_write_done, with_write_given}
 use Rattle.batcher_validator.specs.declared.looping.Loop.{Loop}
 use Rattle.batcher_validator.specs.declared.looping.Next.{Next}
@@ -56,12 +58,13 @@ use Rattle.batcher_validator.specs.declared.looping.Next.TheVariants.{Do, Write}
 use Rattle.batcher_validator.specs.declared.starting.LoopFault.{LoopFault}
 use Rattle.batcher_validator.specs.declared.starting.LoopFault.TheVariants.{NotOpened, NotStarted}
 use Rattle.batcher_validator.specs.declared.starting.LoopFault.TheVariants.{OutOfMemory as NoMemoryToStart}
-use Rattle.batcher_node.specs.Events.{certificate_came, view_entered, vote_came}
+use Rattle.batcher_node.specs.Events.{certificate_came, peer_in, view_entered, vote_came}
 use Rattle.batcher_node.specs.Nodes.{IsLedByAnother, IsNext, NodeConfig, NodeView, node_config}
 use Rattle.batcher_node.specs.Nodes.{slot_at}
-use Rattle.batcher_node.specs.Represents.{IsHeard, MayNeedIn}
-use Rattle.batcher_node.specs.Windows.{contains}
+use Rattle.batcher_node.specs.Represents.{IsHeard, MayNeedIn, ahead_answer, is_heard}
+use Rattle.batcher_node.specs.Windows.{is_ahead}
 use Rattle.batcher_node.specs.Verdicts.{LooksAtKindThere, LooksAtThere}
+use Rattle.batcher_node.specs.declared.answers.Ahead.{Ahead}
 use Rattle.batcher_node.specs.declared.answers.Cast.{Cast}
 use Rattle.batcher_node.specs.declared.answers.Cast.TheVariants.{ToSend, Known as KnownVote}
 use Rattle.batcher_node.specs.declared.answers.Cast.TheVariants.{Outside as OutsideVote}
@@ -74,7 +77,7 @@ use Rattle.batcher_validator.specs.Histories.{refused}
 use Rattle.batcher_validator.specs.Queues.{HasKey}
 use Rattle.batcher_validator.specs.Running.{HasConstructed, ForEachRun, Gives, HasBegun}
 use Rattle.batcher_validator.specs.Running.{IsReadyTask, IsRunning, RunCasts, RunMayWrite, RunMeets}
-use Rattle.batcher_validator.specs.Running.{RunStays, RunTakes}
+use Rattle.batcher_validator.specs.Running.{CatchesUp, RunStays}
 use Rattle.batcher_validator.specs.Shelves.{IsToAnnounce, kind_and_round}
 use Rattle.batcher_validator.specs.Tasks.{IsGivenMeanwhile, NothingIsDue, NothingIsDueMeanwhile}
 use Rattle.batcher_validator.specs.declared.task.PollFault.{PollFault}
@@ -98,8 +101,8 @@ use Rattle.batcher_verdicts.specs.Judging.{same_signature}
 use Rattle.batcher_ffi.specs.contracts.caller.CallerTruth.TheImpl.{ghosts}
 use Rattle.batcher_ffi.specs.declared.caller.Caller.{Caller}
 use Rattle.batcher_ffi.specs.declared.codes.TheConstants.{BEGUN, CLOSED, DAMAGED, DONE, ELSEWHERE}
-use Rattle.batcher_ffi.specs.declared.codes.TheConstants.{FORGED, FULL, IDLE, KNOWN, LEADER_CHANGED}
-use Rattle.batcher_ffi.specs.declared.codes.TheConstants.{MALFORMED, NOT_BEGUN, NOT_GIVEN}
+use Rattle.batcher_ffi.specs.declared.codes.TheConstants.{DROPPED, FULL, IDLE, KNOWN, MALFORMED}
+use Rattle.batcher_ffi.specs.declared.codes.TheConstants.{LEADER_CHANGED, NOT_BEGUN, NOT_GIVEN}
 use Rattle.batcher_ffi.specs.declared.codes.TheConstants.{NOT_OWN, NOT_VERIFIED, NOT_WRITTEN}
 use Rattle.batcher_ffi.specs.declared.codes.TheConstants.{OTHER_OWNER, OTHER_VERSION}
 use Rattle.batcher_ffi.specs.declared.codes.TheConstants.{OUT_OF_MEMORY, PASSED, REFUSED, SHORT}
@@ -113,10 +116,11 @@ use Rattle.batcher_ffi.specs.declared.loops.LoopOptions.{LoopOptions}
 use Rattle.batcher_ffi.specs.declared.tasks.FlatTask.{FlatTask}
 use Rattle.batcher_ffi.specs.Flat.{AreIn, fault_in, kind_in, proposal_of_flat, raw_in}
 use Rattle.batcher_ffi.specs.Flat.{raw_vote_in, round_of_flat, subject_in, vote_of_flat}
-use Rattle.batcher_ffi.specs.Answers.{AnswersVote, enter_code, receipt_code, verdict_code}
+use Rattle.batcher_ffi.specs.Answers.{AnswersVote, ahead_code, enter_code, receipt_code}
+use Rattle.batcher_ffi.specs.Answers.{verdict_code}
 use Rattle.batcher_ffi.specs.Output.{FillsRoom, WritesAll}
 use Rattle.batcher_ffi.specs.Rounds.{AreOfParticipants, AreVerifiedBy, IsVerifiedBy, is_one_of}
-use Rattle.batcher_ffi.specs.Tasks.{IsProposedIn, task_in}
+use Rattle.batcher_ffi.specs.Tasks.{IsProposedIn, OthersStay, task_in}
 
 -- a validator as C has it
 abbrev pub CLoop : Type 0
@@ -240,7 +244,13 @@ GoesOnFrom begins disk l =
     → HasBegun (loop_config l) (certificate_format proof_format sha256_format) earlier
     l.validator)
 
+-- It takes part, and its participant begins just where the disk has nothing.
+abbrev pub MayBeMade : LoopOptions → List ℕ → Type 0
+MayBeMade options disk = (options.participant < options.participants)
+    × MatchBool options.begins (disk ≡ []) (disk ≢ [])
+
 pub record IsMade (options : LoopOptions) (namespace disk : List ℕ) (l : CLoop) : Type 0 where
+  pub may_be : MayBeMade options disk
   pub participants_are : loop_participants l ≡ options.participants
   pub keys_are : loop_keys l ≡ record { 0 = options.keys }
   pub epoch_is : l.validator.voter.node.epoch ≡ record { 0 = options.epoch }
@@ -259,12 +269,22 @@ IsOthers options owner disk =
     × (IsText (vote_format signature_format sha256_format) disk contents
     × (contents.floor.epoch ≢ record { 0 = options.epoch })))
 
+-- The bytes are no journal's, or of one whose votes contradict each other, or make no voter.
+abbrev pub AreDamaged : OwnerFields → List ℕ → Type 0
+AreDamaged owner disk =
+    AreNoText (vote_format signature_format sha256_format) disk owner
+    ⊎ (Contradicts (vote_format signature_format sha256_format) disk owner same_digest
+    ⊎ ((fault : StartFault) × ((fault ≢ NoMemoryForVoter) × HasNoVoter owner disk fault)))
+
 pub record WhyNotMade (options : LoopOptions) (namespace disk : List ℕ) (code : ℕ) : Type 0 where
   pub codes : is_one_of (MALFORMED ∷ BEGUN ∷ start_codes) code ≡ true
   pub malformed : code ≡ MALFORMED → options.participants ≤ options.participant
   pub begun : code ≡ BEGUN → (options.begins ≡ true) × (disk ≢ [])
   pub not_begun : code ≡ NOT_BEGUN → disk ≡ []
   pub others : code ≡ OTHER_OWNER → IsOthers options (owner_in options namespace) disk
+  pub other_version : code ≡ OTHER_VERSION → owner_format.decoding disk ≡ Err Version
+  pub damaged : code ≡ DAMAGED → AreDamaged (owner_in options namespace) disk
+  pub needed : code ≡ OUT_OF_MEMORY → MayBeMade options disk
 
 -- What a call that makes a validator does to a handle: where it fails, the handle stays as it was.
 pub record MakesLoop (old new : Option CLoop) (code : ℕ) (options : LoopOptions)
@@ -275,7 +295,8 @@ pub record MakesLoop (old new : Option CLoop) (code : ℕ) (options : LoopOption
 
 -- what is to be done next, or why that isn't said
 abbrev pub AnswersPoll : Result (Option Next) PollFault → ℕ → FlatTask → FlatTask → Type 0
-AnswersPoll (Ok (Some (Do task))) code old out = (code ≡ DONE) × (task_in out ≡ Some task)
+AnswersPoll (Ok (Some (Do task))) code old out =
+    (code ≡ DONE) × ((task_in out ≡ Some task) × OthersStay task old out)
 AnswersPoll (Ok (Some Write)) code old out = (code ≡ WRITE) × (out ≡ old)
 AnswersPoll (Ok None) code old out = (code ≡ IDLE) × (out ≡ old)
 AnswersPoll (Err NoMemoryToPoll) code old out = (code ≡ OUT_OF_MEMORY) × (out ≡ old)
@@ -310,12 +331,11 @@ LendsNoneOf l view kind =
     → LooksAtKindThere loop_round_config (slot_at l.validator.voter.node.rounds view) kind subject
     all → ⊥
 
--- Whether a round is of a view beyond the window.
-abbrev pub is_ahead : CLoop → Round → Bool
-is_ahead l round =
-    (round.epoch.0 == l.validator.voter.node.epoch.0)
-    && (nat_le l.validator.voter.node.window.finalized round.view.0
-    && not (contains l.validator.voter.node.window round.view.0))
+-- whether what a peer sends is looked at, whose key is the number
+abbrev pub hears_code : CLoop → ℕ → ℕ
+hears_code l peer =
+    cond (is_heard (loop_config l) l.validator.voter.node
+    (peer_in (loop_config l) (record { 0 = peer }))) DONE DROPPED
 
 -- Attestations of a subject are lent, on which verdicts are wanted: of what is looked at.
 pub record IsLentBy
@@ -514,18 +534,19 @@ module _ (before : CLoop) (code : ℕ) (after : CLoop) where
     pub refused : OnErr answer LoopRests
 
   -- or from beyond the window, where who fell behind goes on by it: it is learned and kept.
-  pub record IsFromAhead (certificate : Certificate ProofView Sha256Digest) : Type 0 where
-    pub codes : is_one_of (DONE ∷ FORGED ∷ OUT_OF_MEMORY ∷ []) code ≡ true
-    pub took_in : code ≡ DONE
-        → RunTakes (loop_config before) certificate before.validator after.validator
-    pub forged : code ≡ FORGED
-        → certifies_itself (loop_config before).meaning certificate ≡ false
-    pub forged_stays : code ≡ FORGED → after ≡ before
-    pub needed : code ≡ OUT_OF_MEMORY → IsShelfFull
-        ⊎ (HasRoom before.validator.voter.knowledge
-        (round_in (subject_certified certificate)).view.0
-        → IsKnownAlready before.validator.voter.knowledge (subject_certified certificate) → ⊥)
-    pub refused : code ≡ OUT_OF_MEMORY → LoopRests
+  pub record IsFromAhead (peer : ℕ) (certificate : Certificate ProofView Sha256Digest) : Type 0
+    where
+      pub answer : Result (Receipt Ahead) AllocError
+      pub code_is : code ≡ receipt_code ahead_code answer
+      pub answer_is : IfOk answer (λ given. given ≡ ahead_answer (loop_config before)
+          before.validator.voter.node (record { 0 = peer }) certificate)
+      pub meets : IfOk answer (λ given. CatchesUp (loop_config before) before.validator
+          (record { 0 = peer }) certificate given after.validator)
+      pub needed : OnErr answer (IsShelfFull
+          ⊎ (HasRoom before.validator.voter.knowledge
+          (round_in (subject_certified certificate)).view.0
+          → IsKnownAlready before.validator.voter.knowledge (subject_certified certificate) → ⊥))
+      pub refused : OnErr answer LoopRests
 
   -- memory is refused for the copy of its bytes
   pub record IsNotCopied (bytes : List ℕ) : Type 0 where
@@ -543,7 +564,8 @@ module _ (before : CLoop) (code : ℕ) (after : CLoop) where
       certifies = certifies;
       bytes = bytes;
     }
-    pub came : MatchBool (is_ahead before (round_in subject)) (IsFromAhead certificate)
+    pub came : MatchBool (is_ahead before.validator.voter.node.epoch
+        before.validator.voter.node.window (round_in subject)) (IsFromAhead peer certificate)
         (IsOfPeer peer certificate)
     pub on_disk : loop_copy after ≡ loop_copy before
 
@@ -563,7 +585,7 @@ module _ (before : CLoop) (code : ℕ) (after : CLoop) where
         → HasConstructed (loop_config before) before.validator after.validator ⊎ Notes answered
     pub needed : code ≡ OUT_OF_MEMORY
         → IsShelfFull ⊎ ConstructionNeeds (loop_config before) before.validator.voter
-    pub none : code ≡ IDLE → LendsNone before
+    pub none : (code ≡ IDLE) ⊎ (code ≡ OUT_OF_MEMORY) → LendsNone before
     pub refused : code ≡ OUT_OF_MEMORY → LoopRests
     pub stays : code ≢ VERIFY → (out ≡ old) × (list ≡ room)
     pub on_disk : loop_copy after ≡ loop_copy before
@@ -663,7 +685,7 @@ module _ (before : CLoop) (code : ℕ) (after : CLoop) where
     pub ahead : before.validator.voter.node.window.current < proposal.view → after ≡ before
     pub on_disk : loop_copy after ≡ loop_copy before
 
-  -- The time of a view is over, and all that is to be sent is given again.
+  -- The time of a view is over, and a part of what was sent is to be given again.
   pub record Expires (view : ℕ) : Type 0 where
     pub codes : code ≡ DONE
     pub expires : view ≤ before.validator.voter.node.window.current

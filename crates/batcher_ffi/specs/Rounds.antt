@@ -169,6 +169,7 @@ pub record MakesRound (old new : Option CRound) (code : ℕ) (epoch view partici
   pub malformed : mode_in mode ≡ None → code ≡ MALFORMED
   pub refused : code ≡ MALFORMED → is_some (mode_in mode) ≡ true → participants ≡ 0
   pub some : code ≡ DONE → 1 ≤ participants
+  pub needed : code ≡ OUT_OF_MEMORY → 1 ≤ participants
   pub done : code ≡ DONE
       → IsSomeAnd new (IsNew epoch view participants mode keys batchable)
   pub stays : code ≢ DONE → new ≡ old
@@ -319,6 +320,8 @@ module _ (before : CRound) (code : ℕ) (after : CRound) where
         → AsksNext (config_of_handle before) (held_in before).round
         (held_in before).verdicts subject
         (all ++ rest) → ⊥)
+    -- for the copy of the list, or for the verdicts on it
+    pub needed : code ≡ OUT_OF_MEMORY → 1 ≤ length list
     pub stays : code ≢ DONE → after ≡ before
     pub round : (held_in after).round ≡ (held_in before).round
     pub same : SameAny before after
@@ -349,7 +352,7 @@ module _ (before : CRound) (code : ℕ) (after : CRound) where
         ↔ (is_short (length (config_of_handle before).meaning.participants) room signers_room
         ≡ true)
     pub wants : code ≡ VERIFY → WritesWanted step known_room known room list
-    pub complete : code ≡ DONE → (subject : Subject Sha256Digest)
+    pub complete : (code ≡ DONE) ⊎ (code ≡ OUT_OF_MEMORY) → (subject : Subject Sha256Digest)
         × AreComplete (config_of_handle before) (held_in before).round
         (held_in before).verdicts subject
     pub done : code ≡ DONE → (batch : Batch Made)
@@ -387,6 +390,11 @@ module _ (before : CRound) (code : ℕ) (after : CRound) where
         × (MakesQuorum (keys_in before)
         (length (config_of_handle before).meaning.participants) batch
         × Goes (ConstructCall, ConstructAnswer (Some batch))))
+    -- for the copy of the list, or for a certificate of it
+    pub needed : code ≡ OUT_OF_MEMORY → (1 ≤ length list)
+        ⊎ IfSome (subject_in kind proposal) (λ subject. (all : List (Attestation Signature))
+        × (AreIn list all
+        × MayBeWhole (config_of_handle before) (held_in before).round subject all))
     pub stays : code ≢ DONE → (after ≡ before) × (step ≡ old)
     pub verdicts : (held_in after).verdicts ≡ (held_in before).verdicts
     pub same : SameAny before after

@@ -37,6 +37,19 @@ task_in flat =
     if flat.task == TASK_JUDGE then Some (Judge (proposal_of_flat flat.proposal)) else
     if flat.task == TASK_FORWARD then Some (Forward (round_of_flat flat.proposal)) else None
 
+-- Members that a task doesn't name stay as they were.
+abbrev pub OthersStay : Task Signature Sha256Digest → FlatTask → FlatTask → Type 0
+OthersStay (Block who cause) old new =
+    new ≡ record old { task = new.task; participant = new.participant; cause = new.cause }
+OthersStay (Cast vote) old new = new ≡ record old { task = new.task; vote = new.vote }
+OthersStay (SendVote vote) old new = new ≡ record old { task = new.task; vote = new.vote }
+OthersStay (SendCertificate kind round) old new =
+    new ≡ record old { task = new.task; kind = new.kind; proposal = new.proposal }
+OthersStay (Sign subject) old new =
+    new ≡ record old { task = new.task; kind = new.kind; proposal = new.proposal }
+OthersStay Verify old new = new ≡ record old { task = new.task }
+OthersStay task old new = new ≡ record old { task = new.task; proposal = new.proposal }
+
 -- A proposal that is to be made has the epoch, so that its payload alone is missing.
 abbrev pub IsProposedIn : Epoch → FlatTask → Type 0
 IsProposedIn epoch flat = flat.task ≡ TASK_PROPOSE → flat.proposal.epoch ≡ epoch.0

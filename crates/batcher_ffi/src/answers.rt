@@ -1,7 +1,8 @@
 //! How answers of a validator's node are written: each as a code, and into what is handed in.
 
 ghost use Rattle.std.specs.Prelude.{◌≡◌};
-ghost use Rattle.batcher_ffi.specs.Answers.{AnswersVote, enter_code, receipt_code, verdict_code};
+ghost use Rattle.batcher_ffi.specs.Answers.{AnswersVote, ahead_code, enter_code, receipt_code};
+ghost use Rattle.batcher_ffi.specs.Answers.{verdict_code};
 
 use crate::codes::{
     DONE, DROPPED, ELSEWHERE, FORGED, KNOWN, LEADER_CHANGED, OUT_OF_MEMORY, PASSED, UNKNOWN,
@@ -9,7 +10,7 @@ use crate::codes::{
 use crate::flat::FlatAdmission;
 use batcher_bytes::Signature;
 use batcher_histories::answers::Admission;
-use batcher_node::{EnterFault, Receipt, Verdict};
+use batcher_node::{Ahead, EnterFault, Receipt, Verdict};
 use batcher_types::messages::Sha256Digest;
 use std::alloc::AllocError;
 
@@ -40,6 +41,20 @@ pub fn verdict_code_of(answer: &Result<Receipt<Verdict>, AllocError>) -> u8
         Ok(Receipt::Answered(Verdict::Recorded(_))) => DONE,
         Ok(Receipt::Answered(Verdict::Known)) => KNOWN,
         Ok(Receipt::Answered(Verdict::Forged)) => FORGED,
+        Ok(Receipt::Outside) => ELSEWHERE,
+        Ok(Receipt::Dropped) => DROPPED,
+        Ok(Receipt::Unknown) => UNKNOWN,
+        Err(_) => OUT_OF_MEMORY,
+    }
+}
+
+/// What a certificate of a peer from beyond the window is answered.
+pub fn ahead_code_of(answer: &Result<Receipt<Ahead>, AllocError>) -> u8
+    ensures { result ≡ receipt_code ahead_code answer.now }
+{
+    match answer {
+        Ok(Receipt::Answered(Ahead::Certified)) => DONE,
+        Ok(Receipt::Answered(Ahead::Forged)) => FORGED,
         Ok(Receipt::Outside) => ELSEWHERE,
         Ok(Receipt::Dropped) => DROPPED,
         Ok(Receipt::Unknown) => UNKNOWN,

@@ -1,6 +1,7 @@
 //! The calls of two files that take turns, over flat values. Each answers a code.
 
-ghost use Rattle.std.specs.Prelude.{◌≡◌, IfErr, IfOk};
+ghost use Rattle.std.specs.Prelude.{◌≡◌, Err, IfErr, IfOk};
+ghost use Rattle.batcher_file.specs.Disks.{IsBlank};
 ghost use Rattle.batcher_ffi.specs.Files.{Appends, AsksChange, CarriesOut, IsCreated, IsOpenedAs};
 ghost use Rattle.batcher_ffi.specs.Files.{Replaces, WhyNotCreated, WhyNotOpened, change_in};
 ghost use Rattle.batcher_ffi.specs.Files.{fault_code};
@@ -40,6 +41,8 @@ pub struct FlatChange {
 pub fn opened(alloc: Global, first: &[u8], second: &[u8], turned: &mut bool) -> Result<Files, u8>
     ensures opened { IfOk result (IsOpenedAs first.now second.now turned.new) }
     ensures refused { IfErr result (WhyNotOpened first.now second.now) }
+    ensures empty { result ≡ Err NOT_BEGUN → IsBlank first.now × IsBlank second.now }
+    ensures blank { IsBlank first.now → IsBlank second.now → result ≡ Err NOT_BEGUN }
 {
     let mut files = TwoFiles::new(alloc);
     match files.open(first, second) {
@@ -58,6 +61,7 @@ pub fn opened(alloc: Global, first: &[u8], second: &[u8], turned: &mut bool) -> 
 pub fn created(alloc: Global, first: &[u8], second: &[u8], bytes: &[u8]) -> Result<Files, u8>
     ensures created { IfOk result (IsCreated first.now second.now bytes.now) }
     ensures refused { IfErr result (WhyNotCreated first.now second.now) }
+    ensures needed { result ≡ Err OUT_OF_MEMORY → IsBlank first.now × IsBlank second.now }
 {
     let mut files = TwoFiles::new(alloc);
     match files.create(first, second, bytes) {

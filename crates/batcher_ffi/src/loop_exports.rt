@@ -6,6 +6,7 @@ ghost use Rattle.batcher_ffi.specs.Loops.{AreVerifiedFor, AsksCertified, AsksEar
 ghost use Rattle.batcher_ffi.specs.Loops.{AsksOwed, CastsOwn, Concludes, EntersNext, Expires};
 ghost use Rattle.batcher_ffi.specs.Loops.{Gave, GivesHeld, HasNoHeld, HearsCertificate, HearsVote};
 ghost use Rattle.batcher_ffi.specs.Loops.{IsVerifiedFor, Judges, LendsIn, MakesLoop, Polls, Wrote};
+ghost use Rattle.batcher_ffi.specs.Loops.{hears_code};
 ghost use Rattle.batcher_ffi.specs.Progress.{AsksProgress};
 
 use crate::codes::{DONE, NONE, OUT_OF_MEMORY};
@@ -235,6 +236,19 @@ pub extern "C" fn batcher_loop_expire(
         return NONE;
     };
     loops::expire(validator, view, out)
+}
+
+/// Whether what is sent by the peer with this key is looked at, so that a certificate of another
+/// one needn't be verified.
+#[unsafe(no_mangle)]
+pub extern "C" fn batcher_loop_hears(validator: &mut LoopHandle, peer: u64) -> u8
+    ensures { OnLoop validator.old.value validator.new.value result ⊤
+        (λ before after. (after ≡ before) × (result ≡ hears_code before peer)) }
+{
+    let Some(validator) = validator.as_mut() else {
+        return NONE;
+    };
+    loops::hears(validator, peer)
 }
 
 /// The proposal of the certificate of this kind and of the round of the proposal, if one is kept.

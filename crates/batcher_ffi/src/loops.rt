@@ -1,15 +1,16 @@
 //! The calls of a validator, over flat values. Each answers a code.
 
-ghost use Rattle.std.specs.Prelude.{◌≡◌, ◌≢◌, ◌<◌, ◌≤◌, ◌⊎◌, [], IfErr, IfOk, MatchBool, None};
+ghost use Rattle.std.specs.Prelude.{◌≡◌, ◌≢◌, ◌<◌, ◌≤◌, ◌⊎◌, [], Err, IfErr, IfOk, MatchBool, None};
 ghost use Rattle.std.specs.Prelude.{Some, false, length, map, true};
 ghost use Rattle.batcher_types.specs.Votes.{attestation_of, content_of, round_in};
 ghost use Rattle.batcher_types.specs.Votes.{subject_certified, subject_of};
 ghost use Rattle.batcher_validator.specs.Histories.{answered, refused};
 ghost use Rattle.batcher_validator.specs.Running.{HasConstructed};
 ghost use Rattle.batcher_voter.specs.Needing.{ConstructionNeeds};
-ghost use Rattle.batcher_ffi.specs.Loops.{AnswersPoll, AreVerifiedFor, AsksCertified};
+ghost use Rattle.batcher_ffi.specs.Loops.{AnswersPoll, AreDamaged, AreVerifiedFor, AsksCertified};
 ghost use Rattle.batcher_ffi.specs.Loops.{AsksEarlier, AsksKept};
-ghost use Rattle.batcher_ffi.specs.Loops.{AsksOwed, CastsOwn, Concludes, EntersNext, Expires};
+ghost use Rattle.batcher_ffi.specs.Loops.{AsksOwed, CastCode, CastsOwn, Concludes, EntersNext};
+ghost use Rattle.batcher_ffi.specs.Loops.{Expires};
 ghost use Rattle.batcher_ffi.specs.Loops.{GivesHeld, HasNoHeld};
 ghost use Rattle.batcher_ffi.specs.Flat.{subject_in};
 ghost use Rattle.batcher_ffi.specs.Output.{WritesAll};
@@ -21,16 +22,19 @@ ghost use Rattle.batcher_ffi.specs.Loops.{WhyNotMade, Wrote};
 ghost use Rattle.batcher_ffi.specs.Loops.{loop_config, GoesOnFrom, IsLentOf, IsOf, IsOthers};
 ghost use Rattle.batcher_ffi.specs.Loops.{LendsIn, LendsNone, LendsNoneOf, LendsOf, loop_copy};
 ghost use Rattle.batcher_ffi.specs.Loops.{loop_disk, loop_writing};
-ghost use Rattle.batcher_ffi.specs.Loops.{is_ahead, loop_participants, start_code, start_codes};
+ghost use Rattle.batcher_ffi.specs.Loops.{hears_code, loop_participants, start_code};
+ghost use Rattle.batcher_ffi.specs.Loops.{start_codes};
 ghost use Rattle.batcher_ffi.specs.Progress.{AsksProgress};
 ghost use Rattle.batcher_ffi.specs.Rounds.{is_one_of};
-ghost use Rattle.batcher_journal.specs.Text.{fields_of};
+ghost use Rattle.batcher_bytes.specs.declared.fault.DecodeFault.TheVariants.{Version};
+ghost use Rattle.batcher_journal.specs.Text.{fields_of, owner_format};
+ghost use Rattle.batcher_node.specs.Windows.{is_ahead};
 ghost use Rattle.batcher_ffi.specs.Tasks.{IsProposedIn};
 
-use crate::answers::{enter_code_of, verdict_code_of, write_receipt};
+use crate::answers::{ahead_code_of, enter_code_of, verdict_code_of, write_receipt};
 use crate::caller::Caller;
 use crate::codes::{
-    BEGUN, CLOSED, DAMAGED, DONE, ELSEWHERE, FORGED, FULL, IDLE, KNOWN, MALFORMED, NOT_BEGUN,
+    BEGUN, CLOSED, DAMAGED, DONE, DROPPED, ELSEWHERE, FULL, IDLE, KNOWN, MALFORMED, NOT_BEGUN,
     NOT_GIVEN, NOT_OWN, NOT_VERIFIED, NOT_WRITTEN, OTHER_OWNER, OTHER_VERSION, OUT_OF_MEMORY,
     REFUSED, SHORT, SIGNED, STALE, VERIFY, WRITE,
 };
@@ -90,6 +94,9 @@ pub fn made(
     }
     if options.begins && !disk.is_empty() {
         return Err(BEGUN);
+    }
+    if !options.begins && disk.is_empty() {
+        return Err(NOT_BEGUN);
     }
     let Ok(names) = names(alloc, options.participants) else {
         return Err(OUT_OF_MEMORY);
@@ -153,6 +160,10 @@ fn started(
     ensures not_begun { IfErr result (λ code. code ≡ NOT_BEGUN → disk.now ≡ []) }
     ensures others { IfErr result (λ code. code ≡ OTHER_OWNER
         → IsOthers options.now (fields_of owner.now) disk.now) }
+    ensures other_version { IfErr result (λ code. code ≡ OTHER_VERSION
+        → owner_format.decoding disk.now ≡ Err Version) }
+    ensures damaged { IfErr result (λ code. code ≡ DAMAGED
+        → AreDamaged (fields_of owner.now) disk.now) }
 {
     let Ok(bytes) = copied(alloc, disk) else {
         return Err(OUT_OF_MEMORY);
@@ -303,31 +314,37 @@ pub fn receive_certificate(
     };
     let certificate = Certificate::new(subject, Proof::new(subject, certifies, copied));
     if is_ahead(it, subject.round()) {
-        return catch_up(it, certificate);
+        return catch_up(it, peer, certificate);
     }
     hear_certificate(it, peer, certificate)
 }
 
-// Whether a round is of a view beyond the window.
-fn is_ahead(it: &Looping, round: Round) -> bool
-    ensures { result ≡ is_ahead it.now round }
+/// Whether what the peer sends whose key is the number is looked at.
+pub fn hears(it: &Looping, peer: u64) -> u8
+    ensures { result ≡ hears_code it.now peer }
 {
-    let voter = it.validator.voter();
-    let window = voter.node().window();
-    round.epoch == voter.epoch()
-        && window.finalized <= round.view.0
-        && !window.contains(round.view.0)
+    if it.validator.voter().node().is_heard(&Name(peer)) {
+        DONE
+    } else {
+        DROPPED
+    }
 }
 
-fn catch_up(it: &mut Looping, certificate: Certificate<Proof, Sha256Digest>) -> u8
-    ensures came { IsFromAhead it.old result it.new certificate }
+// Whether a round is of a view beyond the window.
+fn is_ahead(it: &Looping, round: Round) -> bool
+    ensures { result ≡ is_ahead it.now.validator.voter.node.epoch
+        it.now.validator.voter.node.window round }
+{
+    let voter = it.validator.voter();
+    round.epoch == voter.epoch() && voter.node().window().is_beyond(round.view.0)
+}
+
+fn catch_up(it: &mut Looping, peer: u64, certificate: Certificate<Proof, Sha256Digest>) -> u8
+    ensures came { IsFromAhead it.old result it.new peer certificate }
     ensures on_disk { loop_copy it.new ≡ loop_copy it.old }
 {
-    match it.validator.catch_up(certificate) {
-        Ok(true) => DONE,
-        Ok(false) => FORGED,
-        Err(_) => OUT_OF_MEMORY,
-    }
+    let answer = it.validator.catch_up(Name(peer), certificate);
+    ahead_code_of(&answer)
 }
 
 fn hear_certificate(
@@ -528,7 +545,17 @@ fn cast_verified(it: &mut Looping, vote: Vote<Signature, Sha256Digest>) -> u8
         ≡ true }
     ensures { VoteCast it.old result it.new vote }
 {
-    match it.validator.cast(vote) {
+    let answer = it.validator.cast(vote);
+    cast_code_of(answer)
+}
+
+// What a vote of its own is answered that attests.
+fn cast_code_of(
+    answer: Result<Cast<Signature, Sha256Digest>, CastFault<Signature, Sha256Digest>>,
+) -> u8
+    ensures { CastCode answer result }
+{
+    match answer {
         Ok(Cast::ToSend(_)) => DONE,
         Ok(Cast::Known) => KNOWN,
         Ok(Cast::Outside) => ELSEWHERE,
@@ -557,7 +584,8 @@ pub fn judge(it: &mut Looping, proposal: &FlatProposal, valid: bool) -> u8
     DONE
 }
 
-/// The time of a view is over. All that is to be sent is given again. How far the view is says why.
+/// The time of a view is over. A part of what was sent is given again. How far the view is says
+/// why.
 pub fn expire(it: &mut Looping, view: u64, out: &mut FlatProgress) -> u8
     ensures expires { Expires it.old result it.new view }
     ensures progress { AsksProgress it.old view out.new }

@@ -312,20 +312,24 @@ pub fn try_construct(
     if is_short(list, signers, round.participants()) {
         return SHORT;
     }
-    match round.call(Conclude) {
-        Ok(Some(batch)) => {
-            write_batch(&batch, step, list, signers);
-            drop(batch);
-            DONE
-        }
-        Ok(None) => match round.wanted() {
-            Some(wanted) => {
+    match round.wanted() {
+        None => IDLE,
+        Some(wanted) => {
+            if !wanted.pending.is_empty() {
                 write_wanted(&wanted, step, known, list);
-                VERIFY
+                return VERIFY;
             }
-            None => IDLE,
-        },
-        Err(_) => OUT_OF_MEMORY,
+            match round.call(Conclude) {
+                Ok(Some(batch)) => {
+                    write_batch(&batch, step, list, signers);
+                    drop(batch);
+                    DONE
+                }
+                // Nothing is wanted, so it is made.
+                Ok(None) => IDLE,
+                Err(_) => OUT_OF_MEMORY,
+            }
+        }
     }
 }
 

@@ -1,7 +1,7 @@
 //! What a validator gives to be done, as it crosses to C.
 
 ghost use Rattle.std.specs.Prelude.{◌≡◌, Some};
-ghost use Rattle.batcher_ffi.specs.Tasks.{IsProposedIn, task_in};
+ghost use Rattle.batcher_ffi.specs.Tasks.{IsProposedIn, OthersStay, task_in};
 
 use crate::codes::{
     TASK_BLOCK, TASK_CAST, TASK_ENTER, TASK_FINAL, TASK_FORWARD, TASK_JUDGE, TASK_PROPOSE,
@@ -37,6 +37,7 @@ impl FlatTask {
     /// Writes a task of a validator in this epoch.
     pub fn write(&mut self, task: &Task<Signature, Sha256Digest>, epoch: Epoch)
         ensures task { task_in self.new ≡ Some task.now }
+        ensures others { OthersStay task.now self.old self.new }
         ensures proposed { IsProposedIn epoch self.new }
     {
         match task {

@@ -10,6 +10,7 @@ returns-in-Ok-None c = record {
   malformed = λ is some all there. none_missing c.args.list.now all there
       (c.in-Ok-None.ensures.none (ap Ok c.in-Ok-None.field-0-is));
   done = search rules;
+  needed = search rules;
   stays = search rules;
   verdicts = refl;
   same = same_self c.args.round.now;
@@ -28,6 +29,7 @@ returns-in-Ok-None-call c =
           ∙ ap is_some c.in-Ok-None-call.field-0-is));
       malformed = search rules;
       done = search rules;
+      needed = search rules;
       stays = λ is. (c.in-Ok-None-call.ensures.whole (does.waits (ap Ok c.in-Ok-None-call.field-0-is)), refl);
       verdicts = does.verdicts;
       same = c.in-Ok-None-call.ensures.same;

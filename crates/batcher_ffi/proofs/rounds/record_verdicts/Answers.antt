@@ -27,6 +27,7 @@ returns-in-Ok-true c = record {
     ),
   );
   stale = search rules;
+  needed = search rules;
   stays = search rules;
   round = c.in-Ok-true.ensures.does.round;
   same = c.in-Ok-true.ensures.same;
@@ -44,6 +45,7 @@ returns-in-Ok-false c = record {
       (rw c.in-Ok-Some.field-0-is at c.in-Ok-Some.ensures.read) in
       true≢false (sym ((rw c.deref-2.ensures.value at c.in-Ok-false.ensures.does.not_stale) rest
       (rw items at asks)) ∙ c.in-Ok-false.field-0-test));
+  needed = search rules;
   stays = λ is. c.in-Ok-false.ensures.whole
       (c.in-Ok-false.ensures.does.stale (ap Ok c.in-Ok-false.field-0-test));
   round = c.in-Ok-false.ensures.does.round;
@@ -59,6 +61,7 @@ returns-in-Ok-None c = record {
       (c.in-Ok-None.ensures.none (ap Ok c.in-Ok-None.field-0-is));
   records = search rules;
   stale = search rules;
+  needed = search rules;
   stays = search rules;
   round = refl;
   same = same_self c.args.round.now;
@@ -78,6 +81,7 @@ returns-then-not-take_part c = record {
       true≢false (sym (rw items at parts.1.1) ∙ part);
   records = search rules;
   stale = search rules;
+  needed = search rules;
   stays = search rules;
   round = refl;
   same = same_self c.args.round.now;
