@@ -12,7 +12,7 @@ use batcher::votes::Mode;
 use batcher_bytes::MemoryLog;
 use batcher_evidence::attests;
 use batcher_journal::{Journal, Owner, Unopened};
-use batcher_node::{Cast, Cause, EnterFault, Node, Receipt, Verdict};
+use batcher_node::{Ahead, Cast, Cause, EnterFault, Node, Receipt, Verdict};
 use batcher_validator::{PollFault, Task, Validator};
 use batcher_voter::{CastFault, NotStarted};
 use std::alloc::{AllocError, Global};
@@ -137,9 +137,13 @@ impl Station {
         self.validator.receive_certificate(peer, certificate)
     }
 
-    // It goes on by a certificate from beyond its window. False where that is forged.
-    pub(crate) fn catch_up(&mut self, certificate: AnyCertificate) -> Result<bool, AllocError> {
-        self.validator.catch_up(certificate)
+    // It goes on by a certificate from beyond its window. Who forged it is blocked.
+    pub(crate) fn catch_up(
+        &mut self,
+        peer: Name,
+        certificate: AnyCertificate,
+    ) -> Result<Receipt<Ahead>, AllocError> {
+        self.validator.catch_up(peer, certificate)
     }
 
     pub(crate) fn enter(&mut self, view: View, leader: u32) -> Result<(), EnterFault> {

@@ -234,8 +234,9 @@ impl Validator {
 
     // Goes on from a finalization, where it fell behind.
     fn catch_up(&mut self, peer: u32, certificate: &AnyCertificate) -> Result<()> {
-        if self.is_ahead(certificate) && !self.station.catch_up(certificate.clone()?)? {
-            self.block(peer, Cause::Certificate)?;
+        if self.is_ahead(certificate) {
+            let key = Name(u64::from(peer));
+            let _ = self.station.catch_up(key, certificate.clone()?)?;
         }
         Ok(())
     }

@@ -9,7 +9,7 @@ use batcher::round::BlockReason;
 use batcher::scheme::{AttestationList, Counter, Keyed, Name, Scheme, names};
 use batcher_bytes::MemoryLog;
 use batcher_journal::{Journal, Owner, Unopened};
-use batcher_node::{Cast, Cause, Receipt, Verdict};
+use batcher_node::{Ahead, Cast, Cause, Receipt, Verdict};
 use batcher_validator::{PollFault, Task, Validator};
 use batcher_voter::NotStarted;
 use std::alloc::Global;
@@ -316,10 +316,9 @@ fn play(station: &mut Station, rt: &impl Abort) -> Result<(), Fail> {
     station.sign(rt, nullify(2));
     station.hear(0, notarize(2, 1))?;
     station.rests(rt);
-    // What was sent is given again, when that is asked for.
+    // Own votes of the current view are given again, when that is asked for, and the newest
+    // certificates.
     station.validator.send_again();
-    station.sends_again(rt, notarize(1, 0));
-    station.sends_again(rt, finalize(1, 0));
     station.sends_again(rt, nullify(2));
     station.gives(rt, Task::SendCertificate(Kind::Notarization, at(1)));
     station.gives(rt, Task::Forward(at(1)));
@@ -408,6 +407,9 @@ fn lead(station: &mut Station, rt: &impl Abort) -> Result<(), Fail> {
     Ok(())
 }
 
+// What one from beyond the window is answered that certifies.
+const CERTIFIED: Receipt<Ahead> = Receipt::Answered(Ahead::Certified);
+
 #[test]
 fn who_fell_behind_catches_up(rt: HostRuntime) -> Result<(), Fail> {
     let mut station = Station::new(&rt, rt.alloc(), ME)?;
@@ -418,16 +420,24 @@ fn who_fell_behind_catches_up(rt: HostRuntime) -> Result<(), Fail> {
 
 fn catch_up(station: &mut Station, rt: &impl Abort, alloc: Global) -> Result<(), Fail> {
     let far = station.certificate(alloc, finalize(90, 1))?;
-    assert!(rt; station.validator.catch_up(far)?);
+    assert_eq!(rt; station.validator.catch_up(Name(0), far)?, CERTIFIED);
     station.gives(rt, Task::Final(proposal(90, 1)));
     station.enter(rt, 91);
     station.gives(rt, Task::SendCertificate(Kind::Finalization, at(90)));
-    // One that is before the final view isn't kept, and one that nobody signed is forged.
+    // One that is before the final view isn't looked at, nor one of the window.
     let passed = station.certificate(alloc, finalize(89, 1))?;
-    assert!(rt; station.validator.catch_up(passed)?);
+    assert_eq!(rt;
+        station.validator.catch_up(Name(0), passed)?,
+        Receipt::Outside
+    );
+    let near = station.certificate(alloc, finalize(91, 1))?;
+    assert_eq!(rt;
+        station.validator.catch_up(Name(0), near)?,
+        Receipt::Outside
+    );
     assert_eq!(rt; station.validator.certificates().len(), 1);
-    let forged = Certificate::new(finalize(95, 0), AttestationList::new(Vec::new(alloc)));
-    assert!(rt; !station.validator.catch_up(forged)?);
+    station.gives(rt, Task::Verify);
+    station.rests(rt);
     // A certificate of the window is handed in with its sender.
     let known = station.certificate(alloc, notarize(91, 90))?;
     match station.validator.receive_certificate(Name(0), known)? {
@@ -437,6 +447,24 @@ fn catch_up(station: &mut Station, rt: &impl Abort, alloc: Global) -> Result<(),
     station.gives(rt, Task::Enter(View(92)));
     station.gives(rt, Task::SendCertificate(Kind::Notarization, at(91)));
     station.gives(rt, Task::Forward(at(91)));
+    station.gives(rt, Task::Sign(finalize(91, 90)));
+    station.rests(rt);
+    // Who forges one from beyond the window is blocked, once, and nothing else of it is looked at.
+    let forged = Certificate::new(finalize(195, 0), AttestationList::new(Vec::new(alloc)));
+    let heard = station.validator.catch_up(Name(1), forged)?;
+    assert_eq!(rt; heard, Receipt::Answered(Ahead::Forged));
+    assert!(rt; !station.validator.voter().node().is_heard(&Name(1)));
+    station.gives(rt, Task::Block(Participant(1), Cause::Certificate));
+    station.rests(rt);
+    let far = station.certificate(alloc, finalize(195, 1))?;
+    assert_eq!(rt; station.validator.catch_up(Name(1), far)?, Receipt::Dropped);
+    let far = station.certificate(alloc, finalize(195, 1))?;
+    assert_eq!(rt; station.validator.catch_up(Name(4), far)?, Receipt::Unknown);
+    // Its sender isn't blocked.
+    let far = station.certificate(alloc, finalize(195, 1))?;
+    assert_eq!(rt; station.validator.catch_up(Name(2), far)?, CERTIFIED);
+    station.gives(rt, Task::Final(proposal(195, 1)));
+    assert!(rt; station.validator.voter().node().is_heard(&Name(2)));
     Ok(())
 }
 
@@ -576,7 +604,7 @@ impl Member {
                 {
                     let _ = self.station.validator.receive_certificate(key, copy)?;
                 } else {
-                    let _ = self.station.validator.catch_up(copy)?;
+                    let _ = self.station.validator.catch_up(key, copy)?;
                 }
             }
         }
