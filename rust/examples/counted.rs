@@ -2,11 +2,13 @@
 //! benchmark, in which n participants notarize, a certificate is made, they finalize, and another
 //! is made. Nothing is printed.
 //!
-//! usage: counted ROUNDS PARTICIPANTS BYTES made|added|constructed|looped
+//! usage: counted ROUNDS PARTICIPANTS BYTES COURSE
 //!
 //! `made` makes the rounds and drops them, `added` hands in the votes too, and `constructed` makes
 //! the certificates too. `looped` plays as many views of a validator, which leads each of them, and
-//! does all that it gives to be done; what is written goes nowhere.
+//! does all that it gives to be done; what is written goes nowhere. In `notarized` and `nullified`
+//! no view is final: in the first each is notarized, and in the second each proposal is bad. In
+//! `passed` each view is given up by the others, before it votes. It leads every other view.
 
 use batcher::looping::{Loop, Options, Task};
 use batcher::positions::Round as Number;
@@ -104,8 +106,11 @@ fn play<const BYTES: usize>(rounds: u32, participants: u32, adds: bool, construc
     }
 }
 
-/// A validator hears the votes of all others in each view, until so many are final.
-fn play_loop<const BYTES: usize>(views: u64, participants: u32) {
+/// A validator without anything, in epoch 0.
+fn begun<const BYTES: usize>(
+    participants: u32,
+    leader: fn(View) -> Participant,
+) -> Loop<[u8; BYTES]> {
     let options = Options {
         epoch: Epoch::zero(),
         me: Participant::new(0),
@@ -115,8 +120,58 @@ fn play_loop<const BYTES: usize>(views: u64, participants: u32) {
         ahead: 4,
         track_historical_votes: true,
     };
-    let leader = |_: View| Participant::new(0);
-    let mut validator = Loop::<[u8; BYTES]>::begin(&options, leader).expect("memory is there");
+    Loop::begin(&options, leader).expect("memory is there")
+}
+
+/// Writes nowhere, and signs and verifies at no cost. Nothing else is left undone here.
+fn attend<const BYTES: usize>(validator: &mut Loop<[u8; BYTES]>, task: Task<[u8; BYTES]>) {
+    match task {
+        Task::Write(write) => {
+            validator
+                .wrote(black_box(write))
+                .expect("it is of this one");
+        }
+        Task::Sign(subject) => {
+            let own = vote::<BYTES>(0, subject);
+            let signature = &own.attestation().signature;
+            validator
+                .signed(subject, signature, |_| vec![true])
+                .expect("memory is there");
+        }
+        Task::Verify(wanted) => {
+            let verdicts = vec![true; wanted.attestations().len()];
+            validator
+                .conclude(&wanted, &verdicts)
+                .expect("memory is there");
+        }
+        _ => {}
+    }
+}
+
+/// It hears this vote of each of the others.
+fn hear_all<const BYTES: usize>(
+    validator: &mut Loop<[u8; BYTES]>,
+    participants: u32,
+    subject: Subject,
+) {
+    for signer in 1..participants {
+        hear(validator, signer, subject);
+    }
+}
+
+fn hear<const BYTES: usize>(validator: &mut Loop<[u8; BYTES]>, signer: u32, subject: Subject) {
+    let vote = vote(signer, subject);
+    let heard = validator.vote(vote.signer(), &vote);
+    black_box(heard.expect("memory is there"));
+}
+
+fn payload(view: View) -> Sha256Digest {
+    Sha256Digest([view.get() as u8; 32])
+}
+
+/// A validator hears the votes of all others in each view, until so many are final.
+fn play_loop<const BYTES: usize>(views: u64, participants: u32) {
+    let mut validator = begun::<BYTES>(participants, |_| Participant::new(0));
     let mut last = 0;
     while last < views {
         match validator
@@ -124,38 +179,64 @@ fn play_loop<const BYTES: usize>(views: u64, participants: u32) {
             .expect("memory is there")
             .expect("it goes on")
         {
-            Task::Write(write) => {
-                validator
-                    .wrote(black_box(write))
-                    .expect("it is of this one");
-            }
-            Task::Sign(subject) => {
-                let own = vote::<BYTES>(0, subject);
-                let signature = &own.attestation().signature;
-                validator
-                    .signed(subject, signature, |_| vec![true])
-                    .expect("memory is there");
-            }
-            Task::Propose { view, parent } => {
-                let payload = Sha256Digest([view.get() as u8; 32]);
-                validator.propose(view, parent, payload);
-            }
-            Task::SendVote(own) => {
-                for signer in 1..participants {
-                    let vote = vote(signer, own.subject());
-                    let heard = validator.vote(vote.signer(), &vote);
-                    black_box(heard.expect("memory is there"));
-                }
-            }
-            Task::Verify(wanted) => {
-                let verdicts = vec![true; wanted.attestations().len()];
-                validator
-                    .conclude(&wanted, &verdicts)
-                    .expect("memory is there");
-            }
+            Task::Propose { view, parent } => validator.propose(view, parent, payload(view)),
+            Task::SendVote(own) => hear_all(&mut validator, participants, own.subject()),
             Task::Final(proposal) => last = proposal.round.view.get(),
-            Task::SendCertificate(_) | Task::Forward(..) | Task::Enter(_) => {}
             Task::Judge(_) | Task::Block(..) => unreachable!("all are honest, and it leads"),
+            task => attend(&mut validator, task),
+        }
+    }
+}
+
+/// How views end without one that is final.
+#[derive(Clone, Copy, PartialEq)]
+enum Stall {
+    /// Each is notarized, and nobody else votes to finalize it.
+    Notarized,
+    /// Each proposal is bad, so all vote to nullify its view.
+    Nullified,
+    /// The others have voted to nullify it before.
+    Passed,
+}
+
+/// A validator hears the votes of all others in each view, until it is in so many.
+fn play_stall<const BYTES: usize>(views: u64, participants: u32, stall: Stall) {
+    let mut validator = begun::<BYTES>(participants, |view| {
+        Participant::new((view.get() % 2) as u32)
+    });
+    let are_good = stall == Stall::Notarized;
+    let proposal = |view: View, parent: View| {
+        Proposal::new(Number::new(Epoch::zero(), view), parent, payload(view))
+    };
+    loop {
+        match validator
+            .poll()
+            .expect("memory is there")
+            .expect("it goes on")
+        {
+            Task::Enter(view) if view.get() > views => return,
+            Task::Enter(view) if stall == Stall::Passed => {
+                let round = Number::new(Epoch::zero(), view);
+                hear_all(&mut validator, participants, Subject::Nullify { round });
+            }
+            // It leads the even views.
+            Task::Enter(view) if view.get() % 2 == 1 => {
+                let parent = View::new(if are_good { view.get() - 1 } else { 0 });
+                let proposal = proposal(view, parent);
+                hear(&mut validator, 1, Subject::Notarize { proposal });
+            }
+            Task::Propose { .. } if stall == Stall::Passed => {}
+            Task::Propose { view, parent } if are_good => {
+                validator.propose(view, parent, payload(view));
+            }
+            Task::Propose { view, parent } => validator.judge(&proposal(view, parent), false),
+            Task::Judge(proposal) => validator.judge(&proposal, are_good),
+            Task::SendVote(own) => match own.subject() {
+                Subject::Finalize { .. } => {}
+                subject => hear_all(&mut validator, participants, subject),
+            },
+            Task::Final(_) | Task::Block(..) => unreachable!("none is final, and all are honest"),
+            task => attend(&mut validator, task),
         }
     }
 }
@@ -163,21 +244,23 @@ fn play_loop<const BYTES: usize>(views: u64, participants: u32) {
 fn main() {
     let words: Vec<_> = std::env::args().skip(1).collect();
     let [rounds, participants, bytes, phase] = &words[..] else {
-        panic!("usage: counted ROUNDS PARTICIPANTS BYTES made|added|constructed|looped");
+        panic!("usage: counted ROUNDS PARTICIPANTS BYTES COURSE");
     };
     let number = |word: &str| word.parse::<u32>().expect("a number");
-    if phase == "looped" {
-        return match &bytes[..] {
-            "8" => play_loop::<8>(number(rounds).into(), number(participants)),
-            "64" => play_loop::<64>(number(rounds).into(), number(participants)),
-            other => panic!("signatures of {other} bytes aren't played"),
-        };
+    let (views, others) = (number(rounds).into(), number(participants));
+    match (&phase[..], &bytes[..]) {
+        ("looped", "8") => return play_loop::<8>(views, others),
+        ("looped", "64") => return play_loop::<64>(views, others),
+        ("notarized", "64") => return play_stall::<64>(views, others, Stall::Notarized),
+        ("nullified", "64") => return play_stall::<64>(views, others, Stall::Nullified),
+        ("passed", "64") => return play_stall::<64>(views, others, Stall::Passed),
+        _ => {}
     }
     let (adds, constructs) = match &phase[..] {
         "made" => (false, false),
         "added" => (true, false),
         "constructed" => (true, true),
-        other => panic!("{other} is none of made, added, constructed and looped"),
+        other => panic!("{other} isn't played, or not with so many bytes"),
     };
     match &bytes[..] {
         "8" => play::<8>(number(rounds), number(participants), adds, constructs),

@@ -70,6 +70,12 @@ impl Opened {
 }
 
 impl NewFiles {
+    /// The files, to which this one writes alone.
+    pub(crate) fn owned_by(self, life: Life) -> Files {
+        let (pair, life, writes) = (Some(self.pair), Some(life), 0);
+        Files { pair, life, writes }
+    }
+
     /// A validator that begins, and the files that it writes to.
     ///
     /// # Errors
@@ -92,6 +98,12 @@ impl NewFiles {
 }
 
 impl Files {
+    /// This one writes to them alone.
+    pub(crate) fn owned_by(self, life: Life) -> Files {
+        let life = Some(life);
+        Files { life, ..self }
+    }
+
     /// Makes the files of a folder that has none, by whoever sets a validator up. Where a crash kept
     /// it from making both, it can be called again.
     ///

@@ -502,9 +502,6 @@ pub struct Loop<G> {
     // What is to be handed out to be verified, and whose attestations were and have no verdict yet.
     queue: VecDeque<Wanted<G>>,
     asked: Vec<(Subject, Vec<u32>)>,
-    // Of each participant whether it is blocked, and who forged and isn't handed out to be yet.
-    blocked: Vec<bool>,
-    forged: Vec<Participant>,
     // The last view that is final.
     last: View,
     // The last view that was entered.
@@ -647,9 +644,6 @@ impl<G: Clone + AsRef<[u8]> + for<'b> TryFrom<&'b [u8]>> Loop<G> {
         let mut list = Vec::new();
         let none = ffi::Attestation::default();
         reserve_each(&mut list, options.participants, none).map_err(|_| StartError::OutOfMemory)?;
-        let mut blocked = Vec::new();
-        reserve_each(&mut blocked, options.participants, false)
-            .map_err(|_| StartError::OutOfMemory)?;
         let mut namespace = Vec::new();
         reserve(&mut namespace, options.namespace.len()).map_err(|_| StartError::OutOfMemory)?;
         namespace.extend_from_slice(options.namespace);
@@ -668,8 +662,6 @@ impl<G: Clone + AsRef<[u8]> + for<'b> TryFrom<&'b [u8]>> Loop<G> {
             found: Vec::new(),
             queue: VecDeque::new(),
             asked: Vec::new(),
-            blocked,
-            forged: Vec::new(),
             last: View::zero(),
             entered: View::zero(),
             writes: 0,
@@ -687,9 +679,6 @@ impl<G: Clone + AsRef<[u8]> + for<'b> TryFrom<&'b [u8]>> Loop<G> {
     /// same call can be made again.
     pub fn poll(&mut self) -> Result<Option<Task<G>>, PollError> {
         loop {
-            if let Some(peer) = self.forged.pop() {
-                return Ok(Some(Task::Block(peer, Cause::Certificate)));
-            }
             if let Some(wanted) = self.queue.pop_front() {
                 return Ok(Some(Task::Verify(wanted)));
             }
@@ -733,12 +722,7 @@ impl<G: Clone + AsRef<[u8]> + for<'b> TryFrom<&'b [u8]>> Loop<G> {
         let flat = &self.task;
         Ok(Some(match flat.task {
             code::TASK_BLOCK => {
-                let (peer, cause) = (Participant::new(flat.participant), cause_of(flat.cause));
-                if self.is_blocked(peer) {
-                    return Ok(None);
-                }
-                self.block(peer);
-                Task::Block(peer, cause)
+                Task::Block(Participant::new(flat.participant), cause_of(flat.cause))
             }
             code::TASK_FINAL => {
                 let proposal = proposal_of(&flat.proposal);
@@ -984,9 +968,6 @@ impl<G: Clone + AsRef<[u8]> + for<'b> TryFrom<&'b [u8]>> Loop<G> {
         vote: &Vote<G>,
     ) -> Result<Receipt<Admission<G>>, VoteError> {
         let flat = flat_vote(vote)?;
-        if self.is_blocked(sender) {
-            return Ok(Receipt::Dropped);
-        }
         match self
             .library
             .vote(u64::from(sender.get()), &flat, &mut self.answer)
@@ -1035,7 +1016,8 @@ impl<G: Clone + AsRef<[u8]> + for<'b> TryFrom<&'b [u8]>> Loop<G> {
     /// [attestations](Loop::attestations) that it is made of attest, one verdict for each. It isn't
     /// called where the certificate isn't looked at. Then poll.
     ///
-    /// One from beyond the window is learned too: by it a validator that fell behind goes on.
+    /// One from beyond the window is learned too: by it a validator that fell behind goes on. Who
+    /// forges is given to be blocked, whatever the view, and is dropped from then on.
     ///
     /// # Errors
     ///
@@ -1053,8 +1035,11 @@ impl<G: Clone + AsRef<[u8]> + for<'b> TryFrom<&'b [u8]>> Loop<G> {
         if sender.get() >= self.participants {
             return Ok(Receipt::Unknown);
         }
-        if self.is_blocked(sender) {
-            return Ok(Receipt::Dropped);
+        let peer = u64::from(sender.get());
+        match self.library.hears(peer) {
+            code::DONE => {}
+            code::DROPPED => return Ok(Receipt::Dropped),
+            other => unknown(other),
         }
         let (kind, round) = (certificate.kind(), certificate.round());
         if round.epoch != self.epoch || round.view < self.last {
@@ -1063,14 +1048,13 @@ impl<G: Clone + AsRef<[u8]> + for<'b> TryFrom<&'b [u8]>> Loop<G> {
         if self.has_certificate(kind, round) {
             return Ok(Receipt::Answered(Verdict::Known));
         }
-        reserve(&mut self.forged, 1)?;
         let subject = certificate.subject();
         let certifies = match self.attestations(certificate)? {
             Some(wanted) => attest(&wanted, verify),
             None => false,
         };
         match self.library.certificate(
-            u64::from(sender.get()),
+            peer,
             kind_code(kind),
             &flat_subject(&subject),
             certificate.content(),
@@ -1078,28 +1062,13 @@ impl<G: Clone + AsRef<[u8]> + for<'b> TryFrom<&'b [u8]>> Loop<G> {
         ) {
             code::DONE => Ok(Receipt::Answered(Verdict::Recorded)),
             code::KNOWN => Ok(Receipt::Answered(Verdict::Known)),
-            code::FORGED => {
-                self.block(sender);
-                self.forged.push(sender);
-                Ok(Receipt::Answered(Verdict::Forged))
-            }
+            code::FORGED => Ok(Receipt::Answered(Verdict::Forged)),
             code::ELSEWHERE => Ok(Receipt::Outside),
             code::DROPPED => Ok(Receipt::Dropped),
             code::UNKNOWN => Ok(Receipt::Unknown),
             code::OUT_OF_MEMORY => Err(OutOfMemory),
             other => unknown(other),
         }
-    }
-
-    /// What this participant sends is dropped from now on, as where its transport has blocked it.
-    pub fn block(&mut self, peer: Participant) {
-        if let Some(blocked) = self.blocked.get_mut(usize::from(peer)) {
-            *blocked = true;
-        }
-    }
-
-    fn is_blocked(&self, peer: Participant) -> bool {
-        self.blocked.get(usize::from(peer)) == Some(&true)
     }
 
     /// Which of the attestations attest, one verdict for each. Then poll. Lists may be answered in any
@@ -1191,8 +1160,23 @@ impl<G: Clone + AsRef<[u8]> + for<'b> TryFrom<&'b [u8]>> Loop<G> {
         Ok((flat, wanted))
     }
 
+    /// The own signature for this as it is written, to be verified.
+    pub(crate) fn to_verify(
+        &self,
+        subject: Subject,
+        signature: &G,
+    ) -> Result<Wanted<G>, VoteError> {
+        let vote = Vote::new(subject, Attestation::new(self.me, signature.clone()));
+        Ok(self.to_cast(&vote)?.1)
+    }
+
+    /// Who leads a view.
+    pub(crate) fn leader(&self, view: View) -> Participant {
+        self.leader.leader(view)
+    }
+
     /// There is no signature for this.
-    fn refuse(&mut self, subject: &Subject) {
+    pub(crate) fn refuse(&mut self, subject: &Subject) {
         let none = ffi::Vote {
             proposal: flat_subject(subject),
             attestation: ffi::Attestation {
@@ -1240,8 +1224,9 @@ impl<G: Clone + AsRef<[u8]> + for<'b> TryFrom<&'b [u8]>> Loop<G> {
     }
 
     /// The time of a view is over, for the first time or again. It is given up, unless its proposal
-    /// is notarized, and all votes and certificates from the final view on are given to be sent
-    /// again. Then poll. How far the view is says why it takes so long.
+    /// is notarized, and a part of what was sent is given to be sent again: own votes of the current
+    /// view, the finalization of the final view, the certificates of the two newest views, and in
+    /// turn those of four others. Then poll. How far the view is says why it takes so long.
     pub fn expire(&mut self, view: View) -> Progress {
         let mut flat = loops::Progress::default();
         let answer = self.library.expire(view.get(), &mut flat);

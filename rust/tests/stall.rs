@@ -39,6 +39,7 @@ struct Station {
     disk: Vec<u8>,
     view: View,
     finals: usize,
+    proposes: bool,
 }
 
 impl Station {
@@ -49,6 +50,7 @@ impl Station {
             disk: Vec::new(),
             view: View::zero(),
             finals: 0,
+            proposes: true,
         }
     }
 
@@ -92,6 +94,7 @@ impl Station {
                     let signed = self.running.signed(subject, &signature, verdicts);
                     signed.unwrap();
                 }
+                Task::Propose { .. } if !self.proposes => {}
                 Task::Propose { view, parent } => {
                     let payload = Sha256Digest([view.get() as u8; 32]);
                     self.running.propose(view, parent, payload);
@@ -104,29 +107,46 @@ impl Station {
     }
 }
 
-/// So often all hear all. Where nothing is said any more, each one's time is over.
-fn run(all: &mut [Station], times: usize) {
-    let mut sent: Vec<(u32, Message)> = Vec::new();
-    for _ in 0..times {
+/// All hear all, and it is how many messages these are. Where nothing is said any more, each one's
+/// time is over.
+fn turn(all: &mut [Station], sent: &mut Vec<(u32, Message)>) -> usize {
+    for one in all.iter_mut() {
+        let me = one.me;
+        sent.extend(one.go_on().into_iter().map(|message| (me, message)));
+    }
+    if sent.is_empty() {
         for one in all.iter_mut() {
+            let view = one.view;
+            one.running.expire(view);
+        }
+    }
+    let heard = std::mem::take(sent);
+    for (sender, message) in &heard {
+        for one in all.iter_mut().filter(|one| one.me != *sender) {
+            one.hear(*sender, message);
             let me = one.me;
             sent.extend(one.go_on().into_iter().map(|message| (me, message)));
         }
-        if sent.is_empty() {
-            for one in all.iter_mut() {
-                let view = one.view;
-                one.running.expire(view);
-            }
-            continue;
-        }
-        for (sender, message) in std::mem::take(&mut sent) {
-            for one in all.iter_mut().filter(|one| one.me != sender) {
-                one.hear(sender, &message);
-                let me = one.me;
-                sent.extend(one.go_on().into_iter().map(|message| (me, message)));
-            }
-        }
     }
+    heard.len() * (all.len() - 1)
+}
+
+/// So many turns.
+fn run(all: &mut [Station], times: usize) {
+    let mut sent = Vec::new();
+    for _ in 0..times {
+        turn(all, &mut sent);
+    }
+}
+
+/// How many messages are sent until all are behind a view.
+fn sent_until(all: &mut [Station], view: u64) -> usize {
+    let mut sent = Vec::new();
+    let mut messages = 0;
+    while all.iter().any(|it| it.view <= View::new(view)) {
+        messages += turn(all, &mut sent);
+    }
+    messages
 }
 
 /// The three that are left, the first one as it comes. Where it is `early`, it hears of one view
@@ -186,4 +206,16 @@ fn one_came_from_ahead_and_it_is_restarted() {
     }
     run(&mut all, TIMES);
     assert_finals(&all);
+}
+
+/// Nobody proposes, so each view is given up.
+#[test]
+fn a_view_of_a_long_stall_costs_no_more_messages() {
+    let mut all: Vec<_> = (0..4).map(Station::new).collect();
+    for one in &mut all {
+        one.proposes = false;
+    }
+    sent_until(&mut all, 499);
+    let sent = sent_until(&mut all, 500);
+    assert!(sent <= 150, "{sent} messages in view 500");
 }

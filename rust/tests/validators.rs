@@ -264,22 +264,6 @@ fn who_forges_is_blocked() {
     let never = |_: &Wanted<Signature>| panic!("it isn't looked at");
     let heard = station.running.certificate(peer, &forged, never);
     assert_eq!(heard, Ok(Receipt::Dropped));
-    // So is who forges one from beyond the window, and of those that attest one more doesn't.
-    let peer = Participant::new(1);
-    let ahead = nullification(90, &[1, 3, 2]);
-    let one_bad = |wanted: &Wanted<_>| {
-        assert_eq!(wanted.attestations().len(), 3);
-        vec![true, true, false]
-    };
-    let heard = station.running.certificate(peer, &ahead, one_bad);
-    assert_eq!(heard, Ok(Receipt::Answered(Verdict::Forged)));
-    let tasks: Vec<_> = tasks(&mut station.running);
-    let block = |it: &&Task<_>| matches!(it, Task::Block(it, Cause::Certificate) if *it == peer);
-    assert_eq!(tasks.iter().filter(block).count(), 1);
-    let subject = nullify_of(1);
-    let vote = Vote::new(subject, Attestation::new(peer, sign(&subject, 1)));
-    let heard = station.running.vote(peer, &vote);
-    assert!(matches!(heard, Ok(Receipt::Dropped)));
     let good = nullification(1, &[1, 3, 2]);
     let peer = Participant::new(2);
     let heard = station.running.certificate(peer, &good, verdicts);
@@ -293,12 +277,7 @@ fn who_forges_is_blocked() {
     });
     let heard = station.running.certificate(peer, &other, never);
     assert_eq!(heard, Ok(Receipt::Outside));
-    // Nor what comes from whom a transport has blocked, or from nobody.
-    station.running.block(peer);
-    let heard = station
-        .running
-        .certificate(peer, &nullification(2, &[1, 3, 2]), never);
-    assert_eq!(heard, Ok(Receipt::Dropped));
+    // Nor one that comes from nobody.
     let heard = station
         .running
         .certificate(Participant::new(4), &good, never);
@@ -307,6 +286,52 @@ fn who_forges_is_blocked() {
     let kept = station.running.kept(Kind::Nullification, round).unwrap();
     assert_eq!(kept, Some(good));
     assert_eq!(station.running.kept(Kind::Notarization, round), Ok(None));
+}
+
+/// One of those that attest doesn't.
+fn one_bad(wanted: &Wanted<Signature>) -> Vec<bool> {
+    assert_eq!(wanted.attestations().len(), 3);
+    vec![true, true, false]
+}
+
+fn blocks(running: &mut Loop<Signature>) -> Vec<(Participant, Cause)> {
+    let all = tasks(running).into_iter().filter_map(|task| match task {
+        Task::Block(peer, cause) => Some((peer, cause)),
+        _ => None,
+    });
+    all.collect()
+}
+
+#[test]
+fn who_forges_from_ahead_is_blocked_once() {
+    let mut station = begun(0);
+    let peer = Participant::new(1);
+    let ahead = nullification(90, &[1, 3, 2]);
+    let heard = station.running.certificate(peer, &ahead, one_bad);
+    assert_eq!(heard, Ok(Receipt::Answered(Verdict::Forged)));
+    // It is dropped at once, and given to be blocked as soon as something is given.
+    let never = |_: &Wanted<Signature>| panic!("it isn't looked at");
+    let heard = station.running.certificate(peer, &ahead, never);
+    assert_eq!(heard, Ok(Receipt::Dropped));
+    assert_eq!(blocks(&mut station.running), [(peer, Cause::Certificate)]);
+    for view in [1, 90, 91] {
+        let subject = nullify_of(view);
+        let vote = Vote::new(subject, Attestation::new(peer, sign(&subject, 1)));
+        let heard = station.running.vote(peer, &vote);
+        assert!(matches!(heard, Ok(Receipt::Dropped)));
+        let good = nullification(view, &[1, 3, 2]);
+        let heard = station.running.certificate(peer, &good, never);
+        assert_eq!(heard, Ok(Receipt::Dropped));
+    }
+    // Of another peer it is good, and that one isn't blocked.
+    let other = Participant::new(2);
+    let heard = station.running.certificate(other, &ahead, verdicts);
+    assert_eq!(heard, Ok(Receipt::Answered(Verdict::Recorded)));
+    assert_eq!(blocks(&mut station.running), []);
+    let good = nullification(200, &[1, 3, 2]);
+    let heard = station.running.certificate(other, &good, verdicts);
+    assert_eq!(heard, Ok(Receipt::Answered(Verdict::Recorded)));
+    assert_eq!(blocks(&mut station.running), []);
 }
 
 #[test]

@@ -117,6 +117,7 @@ unsafe extern "C" {
     fn batcher_loop_judge(validator: *mut LoopHandle, proposal: *const Proposal, valid: bool)
     -> u8;
     fn batcher_loop_expire(validator: *mut LoopHandle, view: u64, progress: *mut Progress) -> u8;
+    fn batcher_loop_hears(validator: *const LoopHandle, peer: u64) -> u8;
     fn batcher_loop_certified(
         validator: *const LoopHandle,
         kind: u8,
@@ -277,6 +278,11 @@ impl Loop {
     pub(crate) fn expire(&mut self, view: u64, progress: &mut Progress) -> u8 {
         // SAFETY: as above.
         unsafe { batcher_loop_expire(&mut self.handle, view, progress) }
+    }
+
+    pub(crate) fn hears(&self, peer: u64) -> u8 {
+        // SAFETY: as above.
+        unsafe { batcher_loop_hears(&self.handle, peer) }
     }
 
     pub(crate) fn certified(&self, kind: u8, proposal: &mut Proposal) -> u8 {
