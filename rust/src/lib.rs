@@ -10,11 +10,12 @@
 //! [`Round::add_network`] and [`Round::accept_vote`], certificates come out of
 //! [`Round::try_construct`]. Who verifies elsewhere, as on other threads, takes [`Round::step`] in
 //! its place. A [`Loop`] is a validator: it votes by the rules over many views, and says what is to be
-//! done next; [`looping`] says how it is used, and [`Files`] keeps what it writes. A round and a loop
+//! done next; [`looping`] says how it is used, and [`Files`] keeps what it writes. A [`Driver`] is one
+//! that also writes, signs and verifies: [`driver`] says how, and an application begins there. They
 //! stay on their thread; [`thread`] has a handle that doesn't. Of two votes that are reported,
 //! [`convicted`] says whether they show others too that their signer broke the rules. The examples
-//! `view` and `mailbox` of this crate are whole programs, and `rust/validator` is one with real
-//! signatures.
+//! `view` and `mailbox` of this crate are whole programs, and `rust/store` and `rust/validator` are
+//! some with real signatures.
 //!
 //! To run a copy of an example, enable the feature `test` of this crate, and begin with
 //! `use batcher::test::*;`, which has its scheme and its votes.
@@ -63,6 +64,7 @@ compile_error!("the static library of this crate is built for x86-64 Linux alone
 
 mod answers;
 mod construct;
+pub mod driver;
 pub mod errors;
 mod evidence;
 #[allow(unsafe_code)]
@@ -86,6 +88,7 @@ pub mod thread;
 extern crate self as batcher;
 
 pub use answers::{Admission, Batch, BlockReason, Mode, Outcome, OwnFault};
+pub use driver::Driver;
 pub use errors::Error;
 pub use evidence::convicted;
 pub use files::{Files, NewFiles, Opened};
