@@ -1,6 +1,6 @@
 //! What validators do wrong, where they do.
 
-use crate::transport::Message;
+use crate::messages::Message;
 use crate::validator::Validator;
 use batcher::{Certificate, Participant, Proposal, Sha256Digest, Subject};
 use std::thread::sleep;

@@ -6,6 +6,7 @@
 //! usage: validator [KILLS [SEED]]
 
 mod faults;
+mod messages;
 mod network;
 mod record;
 mod sodium;

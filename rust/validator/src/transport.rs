@@ -1,51 +1,79 @@
-//! Messages between validators, by TCP on this machine. Who connects shows by a signature who it is.
-//! What can't be sent now is dropped: a validator sends again what isn't final after a while.
+//! Messages between validators, by TCP on this machine. Who connects shows by a signature who it
+//! is. What can't be sent now is dropped: a validator sends again what isn't final after a while.
 
-use crate::sodium::{KeyPair, PublicKey, Signature, verify};
-use batcher::looping::Listed;
-use batcher::positions::Round;
-use batcher::{Certificate, Epoch, Kind, Participant, Proposal, Sha256Digest, Subject, View};
+use crate::sodium::{KeyPair, PublicKey, verify};
+use batcher::Participant;
 use std::fs::File;
-use std::io::{Read, Result, Write};
+use std::io::{self, Read, Write};
 use std::net::{TcpListener, TcpStream};
 use std::sync::Arc;
 use std::sync::atomic::{AtomicBool, Ordering};
-use std::sync::mpsc::{Receiver, Sender, SyncSender, channel, sync_channel};
+use std::sync::mpsc::{Receiver, RecvTimeoutError, Sender, SyncSender, channel, sync_channel};
 use std::thread;
 use std::time::Duration;
 
 /// How many bytes a message has at most.
 const LONGEST: usize = 1 << 20;
 
-#[derive(Clone)]
-pub enum Message {
-    /// What the sender voted for, with its signature.
-    Vote(Subject, Signature),
-    Certificate(Listed),
+/// How many messages of a peer wait to be heard: who sends more waits alone. As many frames wait to
+/// be sent to one, and what is beyond them isn't sent.
+const WAITING: usize = 1024;
+
+/// What is sent, as bytes.
+pub trait Wire: Sized + Send + 'static {
+    fn written(&self) -> Vec<u8>;
+
+    /// What this participant sent. None where it is no message.
+    fn read(sender: Participant, bytes: &[u8]) -> Option<Self>;
+}
+
+/// What comes, with who sent it.
+pub struct Inbox<M> {
+    messages: Receiver<(Participant, M)>,
+    to: Sender<(Participant, M)>,
+    /// Of each peer one for each of its messages that wait.
+    waiting: Vec<Receiver<()>>,
+}
+
+impl<M> Inbox<M> {
+    pub fn recv_timeout(&self, longest: Duration) -> Result<(Participant, M), RecvTimeoutError> {
+        let (sender, message) = self.messages.recv_timeout(longest)?;
+        let _ = self.waiting[usize::from(sender)].try_recv();
+        Ok((sender, message))
+    }
+
+    /// A way for what doesn't come from peers.
+    #[allow(dead_code)]
+    pub fn sender(&self) -> Sender<(Participant, M)> {
+        self.to.clone()
+    }
 }
 
 /// The ways to the others. There is none to itself.
 pub struct Peers {
-    outgoing: Vec<Option<SyncSender<Vec<u8>>>>,
+    outgoing: Vec<Option<SyncSender<Arc<Vec<u8>>>>>,
     blocked: Arc<Vec<AtomicBool>>,
 }
 
 impl Peers {
     /// Listens on its port and connects to the others. What they send comes with who sent it.
-    pub fn start(
+    pub fn start<M: Wire>(
         me: Participant,
         keys: &KeyPair,
         participants: &[PublicKey],
         ports: &[u16],
-    ) -> Result<(Self, Receiver<(Participant, Message)>)> {
-        let (sender, inbox) = channel();
+    ) -> io::Result<(Self, Inbox<M>)> {
+        let (to, messages) = channel();
+        let (room, waiting): (Vec<_>, Vec<_>) = ports.iter().map(|_| sync_channel(WAITING)).unzip();
+        let sender = to.clone();
         let blocked: Arc<Vec<_>> = Arc::new(ports.iter().map(|_| AtomicBool::new(false)).collect());
         let listener = TcpListener::bind(("127.0.0.1", ports[usize::from(me)]))?;
         let (known, shut) = (participants.to_vec(), blocked.clone());
         thread::spawn(move || {
             for stream in listener.incoming().flatten() {
                 let (known, shut, sender) = (known.clone(), shut.clone(), sender.clone());
-                thread::spawn(move || receive(stream, me, &known, &shut, &sender));
+                let room = room.clone();
+                thread::spawn(move || receive(stream, me, &known, &shut, &room, &sender));
             }
         });
         let mut outgoing = Vec::new();
@@ -54,11 +82,16 @@ impl Peers {
                 outgoing.push(None);
                 continue;
             }
-            let (sender, frames) = sync_channel(4096);
+            let (sender, frames) = sync_channel(WAITING);
             let (port, keys) = (*port, keys.clone());
             thread::spawn(move || deliver(port, me, peer, &keys, &frames));
             outgoing.push(Some(sender));
         }
+        let inbox = Inbox {
+            messages,
+            to,
+            waiting,
+        };
         Ok((Peers { outgoing, blocked }, inbox))
     }
 
@@ -69,10 +102,19 @@ impl Peers {
         }
     }
 
-    pub fn send(&self, message: &Message) {
-        let bytes = written(message);
-        for sender in self.outgoing.iter().flatten() {
-            let _ = sender.try_send(bytes.clone());
+    pub fn send(&self, message: &impl Wire) {
+        self.send_to(message, |_| true);
+    }
+
+    /// Sends it to some.
+    pub fn send_to(&self, message: &impl Wire, is_one: impl Fn(Participant) -> bool) {
+        let bytes = message.written();
+        let length = (bytes.len() as u32).to_be_bytes();
+        let frame = Arc::new([&length[..], &bytes].concat());
+        for (peer, sender) in (0..).map(Participant::new).zip(&self.outgoing) {
+            if let Some(sender) = sender.as_ref().filter(|_| is_one(peer)) {
+                let _ = sender.try_send(frame.clone());
+            }
         }
     }
 }
@@ -83,13 +125,12 @@ fn deliver(
     me: Participant,
     peer: Participant,
     keys: &KeyPair,
-    frames: &Receiver<Vec<u8>>,
+    frames: &Receiver<Arc<Vec<u8>>>,
 ) {
     loop {
         if let Ok(mut stream) = connect(port, me, peer, keys) {
             while let Ok(frame) = frames.recv() {
-                let length = (frame.len() as u32).to_be_bytes();
-                if stream.write_all(&[&length[..], &frame].concat()).is_err() {
+                if stream.write_all(&frame).is_err() {
                     break;
                 }
             }
@@ -98,7 +139,7 @@ fn deliver(
     }
 }
 
-fn connect(port: u16, me: Participant, peer: Participant, keys: &KeyPair) -> Result<TcpStream> {
+fn connect(port: u16, me: Participant, peer: Participant, keys: &KeyPair) -> io::Result<TcpStream> {
     let mut stream = TcpStream::connect(("127.0.0.1", port))?;
     stream.set_nodelay(true)?;
     let mut nonce = [0; 32];
@@ -115,25 +156,31 @@ fn hello(nonce: &[u8; 32], from: Participant, to: Participant) -> Vec<u8> {
 }
 
 /// Hands on what a peer sends, until it is blocked or sends what is no message.
-fn receive(
+fn receive<M: Wire>(
     mut stream: TcpStream,
     me: Participant,
     known: &[PublicKey],
     blocked: &[AtomicBool],
-    inbox: &Sender<(Participant, Message)>,
+    room: &[SyncSender<()>],
+    inbox: &Sender<(Participant, M)>,
 ) {
     let Ok(peer) = welcome(&mut stream, me, known) else {
         return;
     };
-    while let Ok(message) = next(&mut stream) {
-        let is_blocked = blocked[usize::from(peer)].load(Ordering::Relaxed);
-        if is_blocked || inbox.send((peer, message)).is_err() {
+    let (blocked, room) = (&blocked[usize::from(peer)], &room[usize::from(peer)]);
+    while let Ok(message) = next(&mut stream, peer) {
+        let is_blocked = blocked.load(Ordering::Relaxed);
+        if is_blocked || room.send(()).is_err() || inbox.send((peer, message)).is_err() {
             return;
         }
     }
 }
 
-fn welcome(stream: &mut TcpStream, me: Participant, known: &[PublicKey]) -> Result<Participant> {
+fn welcome(
+    stream: &mut TcpStream,
+    me: Participant,
+    known: &[PublicKey],
+) -> io::Result<Participant> {
     let (mut nonce, mut index, mut signature) = ([0; 32], [0; 4], [0; 64]);
     File::open("/dev/urandom")?.read_exact(&mut nonce)?;
     stream.write_all(&nonce)?;
@@ -146,7 +193,7 @@ fn welcome(stream: &mut TcpStream, me: Participant, known: &[PublicKey]) -> Resu
     }
 }
 
-fn next(stream: &mut TcpStream) -> Result<Message> {
+fn next<M: Wire>(stream: &mut TcpStream, peer: Participant) -> io::Result<M> {
     let mut length = [0; 4];
     stream.read_exact(&mut length)?;
     let length = u32::from_be_bytes(length) as usize;
@@ -155,47 +202,5 @@ fn next(stream: &mut TcpStream) -> Result<Message> {
     }
     let mut bytes = vec![0; length];
     stream.read_exact(&mut bytes)?;
-    read(&bytes).ok_or(std::io::ErrorKind::InvalidData.into())
-}
-
-/// What it is, its subject, and the signature or the certificate's bytes.
-fn written(message: &Message) -> Vec<u8> {
-    let (what, subject, content) = match message {
-        Message::Vote(subject, signature) => (0, *subject, &signature[..]),
-        Message::Certificate(made) => (1, made.subject(), &made.content()[..]),
-    };
-    let mut bytes = vec![what, subject.kind() as u8];
-    bytes.extend(subject.round().epoch.get().to_be_bytes());
-    bytes.extend(subject.round().view.get().to_be_bytes());
-    let proposal = subject.proposal();
-    bytes.extend(proposal.map_or(0, |it| it.parent.get()).to_be_bytes());
-    bytes.extend(proposal.map_or([0; 32], |it| it.payload.0));
-    bytes.extend(content);
-    bytes
-}
-
-fn read(bytes: &[u8]) -> Option<Message> {
-    let ([what, kind], rest) = bytes.split_first_chunk::<2>()?;
-    let (epoch, rest) = rest.split_first_chunk::<8>()?;
-    let (view, rest) = rest.split_first_chunk::<8>()?;
-    let (parent, rest) = rest.split_first_chunk::<8>()?;
-    let (payload, content) = rest.split_first_chunk::<32>()?;
-    let number = |bytes: &[u8; 8]| u64::from_be_bytes(*bytes);
-    let round = Round::new(Epoch::new(number(epoch)), View::new(number(view)));
-    let proposal = Proposal::new(round, View::new(number(parent)), Sha256Digest(*payload));
-    let subject = match kind {
-        0 => Subject::Notarize { proposal },
-        1 => Subject::Nullify { round },
-        2 => Subject::Finalize { proposal },
-        _ => return None,
-    };
-    debug_assert_eq!(Kind::Notarization as u8, 0);
-    match what {
-        0 => Some(Message::Vote(subject, content.try_into().ok()?)),
-        1 => Some(Message::Certificate(Certificate::new(
-            subject,
-            content.to_vec(),
-        ))),
-        _ => None,
-    }
+    M::read(peer, &bytes).ok_or(std::io::ErrorKind::InvalidData.into())
 }

@@ -1,13 +1,14 @@
 //! One validator: what comes goes into its loop, and what that gives is done.
 
 use crate::faults::Fault;
+use crate::messages::Message;
 use crate::record::Record;
 use crate::sodium::{KeyPair, PublicKey, Signature, sha256, verify};
-use crate::transport::{Message, Peers};
+use crate::transport::{Inbox, Peers};
 use batcher::looping::{Loop, Options, Task, Wanted};
 use batcher::{Attestation, Epoch, Files, Opened, Participant, Sha256Digest, Subject, View, Vote};
 use std::error::Error;
-use std::sync::mpsc::{Receiver, RecvTimeoutError};
+use std::sync::mpsc::RecvTimeoutError;
 use std::time::{Duration, Instant};
 
 /// How long it waits on a view before it gives the view up.
@@ -63,7 +64,7 @@ impl Validator {
     }
 
     /// Goes on until it is killed.
-    pub fn run(mut self, inbox: &Receiver<(Participant, Message)>) -> Outcome<()> {
+    pub fn run(mut self, inbox: &Inbox<Message>) -> Outcome<()> {
         loop {
             while let Some(task) = self.running.poll()? {
                 self.perform(task)?;
