@@ -67,4 +67,4 @@ test:
 	@exec $(TOP)/tools/test $${ANEW_NAMED:+--anew}
 
 clean:
-	@rm -rf "$$(cat $(TOP)/out/gate/room 2> /dev/null)" $(TOP)/crates/*/out $(TOP)/rust/target $(TOP)/rust/validator/target $(TOP)/rust/simulator/target $(TOP)/out
+	@rm -rf "$$(cat $(TOP)/out/gate/room 2> /dev/null)" $(TOP)/crates/*/out $(TOP)/rust/target $(TOP)/rust/validator/target $(TOP)/rust/store/target $(TOP)/rust/simulator/target $(TOP)/out
