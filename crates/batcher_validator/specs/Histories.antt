@@ -206,14 +206,14 @@ module _ {D K G C : Type 0} where
   me_in (began me before ∷ past) = Some me
   me_in (event ∷ past) = me_in past
 
-  -- what it gave to be signed, last of all, since what was sent was to be again
+  -- what it gave to be signed, last of all, since it last was to send again
   abbrev pub last_to_sign : ValidatorHistory D K G C → Option (Subject D)
   last_to_sign [] = None
   last_to_sign (again ∷ past) = None
   last_to_sign (gave (Sign s) ∷ past) = Some s
   last_to_sign (event ∷ past) = last_to_sign past
 
-  -- which signatures were refused, since what was sent was to be again
+  -- which signatures were refused, since it last was to send again
   abbrev pub unsigned_in : ValidatorHistory D K G C → Unsigned
   unsigned_in [] = nothing_unsigned
   unsigned_in (again ∷ past) = nothing_unsigned

@@ -66,7 +66,7 @@ use Rattle.batcher_voter.specs.declared.answers.FinalizeFault.TheVariants.{NotOf
 pub record IntentView (D : Type 0) : Type 0 where
   -- as whom it votes
   pub me : Participant
-  -- what was given to be signed, last of all, since what was sent was to be again
+  -- what was given to be signed, last of all, since it last was to send again
   pub signing : Option (Subject D)
   -- which signatures were refused since then
   pub unsigned : Unsigned

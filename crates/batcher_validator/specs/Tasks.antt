@@ -115,7 +115,7 @@ module _ {D K G C : Type 0} (x : NodeConfig D K G C) where
       pub rests : RestsOnLearned (conduct_of (voter_history past)) (window_by past).finalized s
       pub within : is_of x.epoch (window_by past) (round_in s) ≡ true
 
-    -- It may be given to be signed: it may be voted for, and since what was sent was to be again no
+    -- It may be given to be signed: it may be voted for, and since it last was to send again no
     -- signature was refused of its kind, of its view or a later one.
     abbrev pub MaySign : ValidatorHistory D K G C → Subject D → Type 0
     MaySign past s = MayVote past s × (is_unsigned (unsigned_in past) s ≡ false)

@@ -34,7 +34,7 @@ use std::rc::Rc;
 pub(crate) struct Intent<D: Digest> {
     // As whom it votes.
     pub(crate) me: Participant,
-    // What was given to be signed, last of all, since what was sent was to be again.
+    // What was given to be signed, last of all, since it last was to send again.
     pub(crate) signing: Option<Subject<D>>,
     // Which signatures were refused since then.
     pub(crate) unsigned: Unsigned,
