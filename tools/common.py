@@ -28,7 +28,7 @@ def say(text):
 NEEDED = {
     "rt": "it comes with the kit that README.md names; 'rt version' shows that it is there",
     "cc": "tools/refuse, tools/memory and tools/rust need a C compiler of that name (README.md)",
-    "cargo": "tools/rust and tools/simulate build the crate with it; Debian has it as the package cargo, and it has to be 1.85 or later",
+    "cargo": "tools/rust, tools/simulate and tools/instructions build the crate with it; Debian has it as the package cargo, and it has to be 1.85 or later",
     "valgrind": "tools/instructions counts by it; Debian has it as the package valgrind",
 }
 
@@ -161,17 +161,23 @@ def program_of(crate):
 def sum_of_sources(crate):
     """A sum of all that the crate is proved and built from: another after an edit of its sources, or of a library's
     below it."""
-    found, listed = hashlib.sha256(), dependencies()
+    found = hashlib.sha256()
     for name in with_libraries([crate]):
-        found.update(repr((name, sorted(listed[name]))).encode())
-        for part in ("src", "specs", "proofs"):
-            for folder, folders, names in os.walk(f"{folder_of(name)}/{part}"):
-                folders.sort()
-                for file in sorted(names):
-                    if file.endswith((".rt", ".antt")):
-                        path = os.path.join(folder, file)
-                        with open(path, "rb") as it:
-                            found.update(repr((os.path.relpath(path, TOP), it.read())).encode())
+        found.update(sum_of_own_sources(name).encode())
+    return found.hexdigest()
+
+
+def sum_of_own_sources(crate):
+    """A sum of the crate's own sources, and of what it lists in crates.txt."""
+    found = hashlib.sha256(repr((crate, sorted(dependencies()[crate]))).encode())
+    for part in ("src", "specs", "proofs"):
+        for folder, folders, names in os.walk(f"{folder_of(crate)}/{part}"):
+            folders.sort()
+            for file in sorted(names):
+                if file.endswith((".rt", ".antt")):
+                    path = os.path.join(folder, file)
+                    with open(path, "rb") as it:
+                        found.update(repr((os.path.relpath(path, TOP), it.read())).encode())
     return found.hexdigest()
 
 
