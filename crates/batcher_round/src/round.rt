@@ -24,6 +24,8 @@ ghost use Rattle.batcher_round.specs.RoundWords.{ForwardAnswer, MissingAnswer, C
 ghost use Rattle.batcher_round.specs.RoundWords.{OutOfMemoryFault, subject_next, pending_next};
 ghost use Rattle.batcher_round.specs.RoundWords.{verified_next, quorum_of, fresh_votes};
 ghost use Rattle.batcher_round.specs.RoundWords.{proven_votes};
+ghost use Rattle.batcher_types.specs.Votes.{kind_of, signer_of};
+ghost use Rattle.batcher_votes.specs.TrackerSteps.{is_known};
 ghost use Rattle.rand_core.specs.Stream.{Stream};
 ghost use Rattle.batcher_histories.specs.Steps.{is_ready_in};
 ghost use Rattle.batcher_round.specs.Verdicts.{judged_config, judged_config_with, BatchIsAssembled};
@@ -296,6 +298,33 @@ impl<S: Scheme<D>, D: Digest> Round<S, D> {
             vote).added ≡ false → IsOk result }
         ensures needed { IsRefusedForNeed ⟦<S as RoundConfigs<D>>⟧.of self.old
             (NetworkCall sender vote) result }
+        ensures refused { OnErr result (self.new ≡ self.old) }
+        ensures same { SameRound self.old self.new }
+    {
+        self.has_participants();
+        self.take_in(sender, vote)
+    }
+
+    // Does nothing. A quorum takes one.
+    fn has_participants(&self)
+        ensures { 1 ≤ length (S.meaning self.now.scheme).participants }
+    {
+        let _ = self.ballots.verifier();
+    }
+
+    // The same as `add_network`, by what the round holds.
+    fn take_in(
+        &mut self,
+        sender: S::PublicKey,
+        vote: Vote<S::Signature, D>,
+    ) -> Result<Admission<S::Signature, D>, AllocError>
+        requires { round_in (subject_of vote) ≡ self.old.number }
+        ensures step { IfOk result (λ answer. AfterNetwork (⟦<S as RoundConfigs<D>>⟧.of self.old)
+            self.old.holds sender vote answer self.new.holds) }
+        ensures no_memory { (admission (⟦<S as RoundConfigs<D>>⟧.of self.old) self.old.holds sender
+            vote).added ≡ false → IsOk result }
+        ensures spared { is_known self.old.holds.tracked (signer_of vote) ≡ true
+            → of_kind self.old.holds.tracked.compacted (kind_of vote) ≡ true → IsOk result }
         ensures refused { OnErr result (self.new ≡ self.old) }
         ensures same { SameRound self.old self.new }
     {
