@@ -360,19 +360,63 @@ static int poll_once(struct batcher_loop *loop, uint32_t me, uint8_t *disk, size
     }
 }
 
+/* Bytes that are the list of a quorum, as a rule. */
+static size_t any_list(uint8_t *bytes, uint32_t participants) {
+    uint32_t quorum = participants - (participants - 1) / 3, first = (uint32_t)below(participants);
+    uint32_t count = quorum + (uint32_t)below(participants - quorum + 1);
+    if (below(8) == 0) count = (uint32_t)below(MOST + 1);
+    memset(bytes, 0, 8 + 101 * MOST);
+    bytes[7] = (uint8_t)count;
+    for (uint32_t i = 0; i < count; i++) {
+        uint8_t *at = bytes + 8 + 101 * i;
+        at[3] = (uint8_t)(below(30) != 0 ? (first + i) % participants : below(participants + 1));
+        at[4] = (uint8_t)(below(50) != 0 ? 1 : below(100));
+        at[5] = (uint8_t)(below(50) != 0);
+    }
+    size_t length = 8 + 101 * count;
+    return below(10) != 0 ? length : below(length);
+}
+
+/* A certificate is taken in by verdicts on what its bytes list. */
+static int certificate_of(struct batcher_loop *loop, uint32_t participants, uint64_t peer, const struct batcher_vote *vote) {
+    uint8_t bytes[8 + 101 * MOST], wanted = batcher_loop_wants(loop, peer, vote->kind, &vote->proposal);
+    struct batcher_attestation list[MOST];
+    bool verdicts[MOST], all = true, is_heard = batcher_loop_hears(loop, peer) == BATCHER_DONE;
+    uint64_t listed = 0, given;
+    size_t length = any_list(bytes, participants);
+    uint8_t code = batcher_loop_listed(loop, bytes, length, list, MOST, &listed);
+    MADE(code);
+    CHECK(code == BATCHER_VERIFY || (code == BATCHER_FORGED && listed == 0));
+    CHECK(listed <= participants && (listed == 0 || length == 8 + 101 * listed));
+    for (uint64_t i = 0; i < listed; i++) {
+        for (uint64_t j = 0; j < i; j++) CHECK(list[i].signer != list[j].signer);
+        verdicts[i] = attests(&list[i]);
+        all = all && verdicts[i];
+    }
+    given = listed == 0 || below(20) != 0 ? listed : below(listed);
+    code = batcher_loop_certificate(loop, peer, vote->kind, &vote->proposal, bytes, length, verdicts, given);
+    MADE(code);
+    CHECK((code == BATCHER_MALFORMED) == (vote->kind > 2 || given != listed));
+    if (code == BATCHER_MALFORMED) return 0;
+    CHECK(is_heard == (code != BATCHER_DROPPED && code != BATCHER_UNKNOWN));
+    CHECK(wanted == BATCHER_DONE || wanted == BATCHER_KNOWN || code == wanted);
+    CHECK(code != BATCHER_DONE || (listed != 0 && all));
+    if (code == BATCHER_FORGED) CHECK((listed == 0 || !all) && batcher_loop_hears(loop, peer) == BATCHER_DROPPED);
+    return 0;
+}
+
 static int one_loop_call(struct batcher_loop *loop, uint32_t participants, uint32_t me, uint8_t *disk, size_t *written) {
     struct batcher_progress progress;
     struct batcher_admission admission;
     struct batcher_vote vote = any_vote(participants);
-    uint8_t bytes[8] = {0}, room[8], code;
+    uint8_t room[8], message[80], code;
     uint64_t count = 0, peer = below(10) != 0 ? vote.attestation.signer : below(300);
-    bool is_heard = batcher_loop_hears(loop, peer) == BATCHER_DONE;
     may_refuse = below(4) == 0;
     refused = false;
     vote.proposal.view = below(6);
     vote.proposal.parent = below(6);
     memset(&admission, 0x5a, sizeof admission);
-    switch (below(12)) {
+    switch (below(13)) {
     case 0:
     case 1:
     case 2:
@@ -388,12 +432,7 @@ static int one_loop_call(struct batcher_loop *loop, uint32_t participants, uint3
         return 0;
     case 4:
         vote.proposal.view = below(20);
-        code = batcher_loop_certificate(loop, peer, vote.kind, &vote.proposal, bytes, below(9), below(3) == 0);
-        MADE(code);
-        CHECK((code == BATCHER_MALFORMED) == (vote.kind > 2));
-        if (vote.kind <= 2) CHECK(is_heard == (code != BATCHER_DROPPED && code != BATCHER_UNKNOWN));
-        if (code == BATCHER_FORGED) CHECK(batcher_loop_hears(loop, peer) == BATCHER_DROPPED);
-        return 0;
+        return certificate_of(loop, participants, peer, &vote);
     case 5:
         code = batcher_loop_kept(loop, vote.kind, &vote.proposal, room, sizeof room, &count);
         CHECK((code == BATCHER_MALFORMED) == (vote.kind > 2));
@@ -401,8 +440,24 @@ static int one_loop_call(struct batcher_loop *loop, uint32_t participants, uint3
         CHECK(batcher_loop_certified(loop, vote.kind, &vote.proposal) != BATCHER_IDLE || code == BATCHER_IDLE
               || code == BATCHER_NOT_WRITTEN);
         return 0;
-    case 6: CHECK(batcher_loop_expire(loop, below(8), &progress) == BATCHER_DONE); return 0;
-    case 7: return conclude_in(loop, participants);
+    case 6: {
+        struct batcher_progress asked;
+        uint64_t view = below(8), last;
+        CHECK(batcher_loop_progress(loop, view, &asked) == BATCHER_DONE);
+        CHECK(batcher_loop_expire(loop, view, &progress) == BATCHER_DONE);
+        CHECK(asked.has_leader == progress.has_leader && asked.has_proposal == progress.has_proposal);
+        CHECK(asked.notarizes.pending == progress.notarizes.pending);
+        CHECK(asked.nullifies.verified == progress.nullifies.verified);
+        CHECK(asked.finalizes.certified == progress.finalizes.certified);
+        CHECK(batcher_loop_views(loop, &view, &last) == BATCHER_DONE && last <= view);
+        return 0;
+    }
+    case 7:
+        code = batcher_loop_message(loop, vote.kind, &vote.proposal, message, below(sizeof message), &count);
+        CHECK((code == BATCHER_MALFORMED) == (vote.kind > 2));
+        if (code == BATCHER_DONE) CHECK(count == (vote.kind == BATCHER_NULLIFICATION ? 26 : 66));
+        return 0;
+    case 8: return conclude_in(loop, participants);
     default: return poll_once(loop, me, disk, written);
     }
 }

@@ -22,6 +22,7 @@
 #define ROOM (1 << 20)
 #define NAMESPACE "batcher validator example"
 #define HELLO "batcher validator hello"
+#define MESSAGE 128 /* room for what is signed */
 #define SUBJECT 58 /* what it is, its kind, epoch, view, parent and payload */
 
 /* The functions of libsodium that this takes. Its package has the library alone, without a header. */
@@ -53,6 +54,9 @@ static bool is_blocked[MOST];
 static struct batcher_loop loop;
 static struct batcher_files disk;
 static uint64_t view, last, deadline;
+/* What is final, until the next write is done: it has the finalization. */
+static struct batcher_proposal held;
+static bool is_held;
 static uint8_t room[ROOM];
 
 static void stop(const char *what) {
@@ -99,41 +103,37 @@ static const char *hex(const uint8_t *payload) {
     return text;
 }
 
-/* What is signed, as `Loop::message` of the crate has it. */
+/* The bytes to sign. */
 static size_t message_of(uint8_t *bytes, uint8_t kind, const struct batcher_proposal *proposal) {
-    size_t at = sizeof NAMESPACE - 1 + 8;
-    put(bytes, sizeof NAMESPACE - 1, 8);
-    memcpy(bytes + 8, NAMESPACE, sizeof NAMESPACE - 1);
-    bytes[at] = kind;
-    put(bytes + at + 1, proposal->epoch, 8);
-    put(bytes + at + 9, proposal->view, 8);
-    if (kind == BATCHER_NULLIFICATION) return at + 17;
-    put(bytes + at + 17, proposal->parent, 8);
-    memcpy(bytes + at + 25, proposal->payload, 32);
-    return at + 57;
+    uint64_t length;
+    done(batcher_loop_message(&loop, kind, proposal, bytes, MESSAGE, &length));
+    return length;
 }
 
 static bool attests(uint8_t kind, const struct batcher_proposal *proposal, const struct batcher_attestation *it) {
-    uint8_t message[128];
+    uint8_t message[MESSAGE];
     size_t length = message_of(message, kind, proposal);
     return it->signer < count && it->length == 64
         && crypto_sign_ed25519_verify_detached(it->bytes, message, length, public[it->signer]) == 0;
 }
 
-/* Whether bytes are the list of a quorum of different participants, who attest each. */
+/* Whether each attestation attests that the bytes of a certificate list, and how many they are: none where it is
+ * no list of a quorum. */
+static size_t verdicts_on(bool *verdicts, uint8_t kind, const struct batcher_proposal *proposal, const uint8_t *bytes,
+                          size_t length) {
+    struct batcher_attestation list[MOST];
+    uint64_t listed = 0;
+    uint8_t code = batcher_loop_listed(&loop, bytes, length, list, MOST, &listed);
+    need(code == BATCHER_VERIFY || code == BATCHER_FORGED, batcher_code_text(code));
+    for (uint64_t i = 0; i < listed; i++) verdicts[i] = attests(kind, proposal, &list[i]);
+    return listed;
+}
+
 static bool certifies(uint8_t kind, const struct batcher_proposal *proposal, const uint8_t *bytes, size_t length) {
-    bool is_there[MOST] = {false};
-    if (length < 8) return false;
-    uint64_t signers = number(bytes, 8);
-    if (signers < count - (count - 1) / 3 || signers > count || length != 8 + signers * 101) return false;
-    bytes += 8;
-    for (uint64_t i = 0; i < signers; i++, bytes += 101) {
-        struct batcher_attestation one = {.signer = (uint32_t)number(bytes, 4), .length = bytes[4]};
-        memcpy(one.bytes, bytes + 5, sizeof one.bytes);
-        if (one.signer >= count || is_there[one.signer] || !attests(kind, proposal, &one)) return false;
-        is_there[one.signer] = true;
-    }
-    return true;
+    bool verdicts[MOST], all = true;
+    size_t given = verdicts_on(verdicts, kind, proposal, bytes, length);
+    for (size_t i = 0; i < given; i++) all = all && verdicts[i];
+    return given != 0 && all;
 }
 
 /* Does what is to be done to the files, each thing after the one before lasts. */
@@ -248,16 +248,16 @@ static void send_all(uint8_t what, uint8_t kind, const struct batcher_proposal *
     }
 }
 
-/* That doubles with each view that isn't final, up to four seconds. */
+/* That doubles with each view beyond the usual three that isn't final, up to four seconds. */
 static void wait_for_view(void) {
-    uint64_t behind = view > last ? view - last - 1 : 0;
+    uint64_t behind = view > last + 3 ? view - last - 3 : 0;
     deadline = now() + ((uint64_t)250 << (behind < 4 ? behind : 4));
 }
 
 static void cast(const struct batcher_task *task) {
     struct batcher_vote vote = task->vote;
     if (task->task == BATCHER_TASK_SIGN) {
-        uint8_t message[128];
+        uint8_t message[MESSAGE];
         size_t length = message_of(message, task->kind, &task->proposal);
         memset(&vote, 0, sizeof vote);
         vote.kind = task->kind;
@@ -282,6 +282,13 @@ static void verify(void) {
     done(batcher_loop_conclude(&loop, step.kind, &step.proposal, list, step.listed, verdicts, step.listed));
 }
 
+static void say_final(void) {
+    if (!is_held) return;
+    is_held = false;
+    last = held.view;
+    note("final %llu %llu %s\n", (unsigned long long)last, (unsigned long long)held.parent, hex(held.payload));
+}
+
 static void perform(struct batcher_task *task) {
     static const char *const kinds[] = {"notarization", "nullification", "finalization"};
     struct batcher_proposal *proposal = &task->proposal;
@@ -293,9 +300,8 @@ static void perform(struct batcher_task *task) {
         is_blocked[task->participant] = true;
         break;
     case BATCHER_TASK_FINAL:
-        last = proposal->view;
-        note("final %llu %llu %s\n", (unsigned long long)last, (unsigned long long)proposal->parent,
-             hex(proposal->payload));
+        held = *proposal;
+        is_held = true;
         break;
     case BATCHER_TASK_SEND_VOTE:
         note("sends %s %llu %s\n", kinds[task->vote.kind], (unsigned long long)task->vote.proposal.view,
@@ -333,13 +339,13 @@ static void go_on(void) {
     memset(&task, 0, sizeof task);
     for (;;) {
         uint8_t code = batcher_loop_poll(&loop, &task);
+        if (code == BATCHER_WRITE) write_down();
+        /* Where nothing was to be written, it was there. */
+        say_final();
         if (code == BATCHER_IDLE) return;
-        if (code == BATCHER_WRITE) {
-            write_down();
-        } else {
-            done(code);
-            perform(&task);
-        }
+        if (code == BATCHER_WRITE) continue;
+        done(code);
+        perform(&task);
     }
 }
 
@@ -360,12 +366,10 @@ static void hear(uint32_t peer, const uint8_t *bytes, size_t length) {
         vote.attestation.length = 64;
         memcpy(vote.attestation.bytes, bytes, 64);
         batcher_loop_vote(&loop, peer, &vote, &admission);
-    } else if (bytes[-SUBJECT] == 1 && vote.proposal.view >= last) {
-        struct batcher_proposal proposal = vote.proposal;
-        /* One that is there isn't verified. */
-        if (batcher_loop_certified(&loop, vote.kind, &proposal) != BATCHER_IDLE) return;
-        bool good = certifies(vote.kind, &vote.proposal, bytes, length);
-        batcher_loop_certificate(&loop, peer, vote.kind, &vote.proposal, bytes, length, good);
+    } else if (bytes[-SUBJECT] == 1 && batcher_loop_wants(&loop, peer, vote.kind, &vote.proposal) == BATCHER_DONE) {
+        bool verdicts[MOST];
+        size_t given = verdicts_on(verdicts, vote.kind, &vote.proposal, bytes, length);
+        batcher_loop_certificate(&loop, peer, vote.kind, &vote.proposal, bytes, length, verdicts, given);
     }
 }
 

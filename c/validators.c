@@ -95,31 +95,21 @@ static bool attests(uint8_t kind, const struct batcher_proposal *proposal, const
     return it->length == made.length && memcmp(it->bytes, made.bytes, sizeof made.bytes) == 0;
 }
 
-static uint64_t number(const uint8_t *bytes, size_t length) {
-    uint64_t found = 0;
-    for (size_t i = 0; i < length; i++) found = found << 8 | bytes[i];
-    return found;
+/* Whether each attestation attests that the bytes of a certificate list, and how many they are: none where it is no list of a
+ * quorum. */
+static size_t verdicts_on(const struct batcher_loop *loop, const struct message *it, bool *verdicts) {
+    struct batcher_attestation list[VALIDATORS];
+    uint64_t listed = 0;
+    if (batcher_loop_listed(loop, it->bytes, it->length, list, VALIDATORS, &listed) != BATCHER_VERIFY) return 0;
+    for (uint64_t i = 0; i < listed; i++) verdicts[i] = attests(it->vote.kind, &it->vote.proposal, &list[i]);
+    return listed;
 }
 
-/* Whether a certificate is the list of a quorum of different participants who attest each: how many they are, and of each its
- * index, how long its signature is, and 96 bytes. */
-static bool certifies(const struct message *it) {
-    bool is_there[VALIDATORS] = {false};
-    const uint8_t *bytes = it->bytes + 8;
-    if (it->length < 8) return false;
-    uint64_t count = number(it->bytes, 8);
-    if (count < 3 || count > VALIDATORS || it->length != 8 + count * 101) return false;
-    for (uint64_t i = 0; i < count; i++, bytes += 101) {
-        struct batcher_attestation one;
-        memset(&one, 0, sizeof one);
-        one.signer = (uint32_t)number(bytes, 4);
-        one.length = bytes[4];
-        memcpy(one.bytes, bytes + 5, sizeof one.bytes);
-        if (one.signer >= VALIDATORS || is_there[one.signer]) return false;
-        if (!attests(it->vote.kind, &it->vote.proposal, &one)) return false;
-        is_there[one.signer] = true;
-    }
-    return true;
+static bool certifies(const struct batcher_loop *loop, const struct message *it) {
+    bool verdicts[VALIDATORS], all = true;
+    size_t given = verdicts_on(loop, it, verdicts);
+    for (size_t i = 0; i < given; i++) all = all && verdicts[i];
+    return given != 0 && all;
 }
 
 /* One in ten messages is lost, and so is each that finds no room. */
@@ -174,7 +164,7 @@ static int verify_disk(const struct batcher_loop *loop) {
                     != BATCHER_IDLE;
          place++) {
         message.length = count;
-        CHECK(code == BATCHER_DONE && certifies(&message));
+        CHECK(code == BATCHER_DONE && certifies(loop, &message));
     }
     return 0;
 }
@@ -319,7 +309,7 @@ static int perform(uint32_t me, const struct batcher_task *task) {
         message.length = count;
         message.vote.kind = task->kind;
         message.vote.proposal = proposal;
-        CHECK(certifies(&message));
+        CHECK(certifies(&it->loop, &message));
         send_all(&message);
         return 0;
     case BATCHER_TASK_ENTER:
@@ -372,9 +362,13 @@ static int hear(uint32_t me) {
     if (message.is_vote) {
         code = batcher_loop_vote(&it->loop, message.from, &message.vote, &admission);
     } else {
+        bool verdicts[VALIDATORS];
+        size_t given = verdicts_on(&it->loop, &message, verdicts);
+        uint8_t wanted = batcher_loop_wants(&it->loop, message.from, message.vote.kind, &message.vote.proposal);
         code = batcher_loop_certificate(&it->loop, message.from, message.vote.kind, &message.vote.proposal,
-                                        message.bytes, message.length, certifies(&message));
+                                        message.bytes, message.length, verdicts, given);
         CHECK(code != BATCHER_FORGED);
+        CHECK(wanted == BATCHER_DONE || wanted == BATCHER_KNOWN || code == wanted);
     }
     CHECK(code == BATCHER_DONE || code == BATCHER_ELSEWHERE || code == BATCHER_DROPPED || code == BATCHER_KNOWN);
     return 0;
@@ -426,6 +420,61 @@ static int one_network(uint64_t seed) {
     return 0;
 }
 
+/* The list of the attestations of these signers. */
+static size_t list_of(uint8_t *bytes, const uint32_t *signers, uint8_t signed_by, uint8_t kind,
+                      const struct batcher_proposal *proposal) {
+    memset(bytes, 0, 8);
+    bytes[7] = signed_by;
+    bytes += 8;
+    for (uint8_t i = 0; i < signed_by; i++, bytes += 101) {
+        struct batcher_attestation made = sign(signers[i], kind, proposal);
+        memset(bytes, 0, 3);
+        bytes[3] = (uint8_t)signers[i];
+        bytes[4] = made.length;
+        memcpy(bytes + 5, made.bytes, sizeof made.bytes);
+    }
+    return 8 + 101 * (size_t)signed_by;
+}
+
+/* Which bytes are the list of a quorum, and what becomes of a certificate by verdicts on one. */
+static int lists(struct batcher_loop *loop) {
+    static const uint32_t quorum[] = {3, 0, 2}, twice[] = {3, 0, 3}, other[] = {3, 0, VALIDATORS};
+    struct batcher_attestation list[VALIDATORS];
+    struct batcher_proposal proposal;
+    uint8_t bytes[512];
+    uint64_t count = 7;
+    const bool good[] = {true, true, true};
+    memset(&proposal, 0, sizeof proposal);
+    proposal.view = 2;
+    size_t length = list_of(bytes, quorum, 3, BATCHER_NOTARIZATION, &proposal);
+    CHECK(batcher_loop_listed(loop, bytes, length, list, VALIDATORS - 1, &count) == BATCHER_SHORT);
+    CHECK(batcher_loop_listed(loop, bytes, length - 1, list, VALIDATORS, &count) == BATCHER_FORGED);
+    CHECK(batcher_loop_listed(loop, bytes, length + 1, list, VALIDATORS, &count) == BATCHER_FORGED);
+    CHECK(batcher_loop_listed(loop, bytes, 0, list, VALIDATORS, &count) == BATCHER_FORGED && count == 7);
+    CHECK(batcher_loop_listed(loop, bytes, length, list, VALIDATORS, &count) == BATCHER_VERIFY && count == 3);
+    for (int i = 0; i < 3; i++)
+        CHECK(list[i].signer == quorum[i] && attests(BATCHER_NOTARIZATION, &proposal, &list[i]));
+    bytes[4 + 8] = BATCHER_SIGNATURE_BYTES + 1;
+    CHECK(batcher_loop_listed(loop, bytes, length, list, VALIDATORS, &count) == BATCHER_FORGED);
+    length = list_of(bytes, twice, 3, BATCHER_NOTARIZATION, &proposal);
+    CHECK(batcher_loop_listed(loop, bytes, length, list, VALIDATORS, &count) == BATCHER_FORGED);
+    length = list_of(bytes, other, 3, BATCHER_NOTARIZATION, &proposal);
+    CHECK(batcher_loop_listed(loop, bytes, length, list, VALIDATORS, &count) == BATCHER_FORGED);
+    length = list_of(bytes, quorum, 2, BATCHER_NOTARIZATION, &proposal);
+    CHECK(batcher_loop_listed(loop, bytes, length, list, VALIDATORS, &count) == BATCHER_FORGED);
+    length = list_of(bytes, quorum, 3, BATCHER_NOTARIZATION, &proposal);
+    CHECK(batcher_loop_wants(loop, 0, 3, &proposal) == BATCHER_MALFORMED);
+    CHECK(batcher_loop_wants(loop, 0, BATCHER_NOTARIZATION, &proposal) == BATCHER_DONE);
+    CHECK(batcher_loop_wants(loop, VALIDATORS, BATCHER_NOTARIZATION, &proposal) == BATCHER_UNKNOWN);
+    CHECK(batcher_loop_certificate(loop, 0, BATCHER_NOTARIZATION, &proposal, bytes, length, good, 2)
+          == BATCHER_MALFORMED);
+    CHECK(batcher_loop_certificate(loop, 0, BATCHER_NOTARIZATION, &proposal, bytes, length, good, 3) == BATCHER_DONE);
+    CHECK(batcher_loop_wants(loop, 0, BATCHER_NOTARIZATION, &proposal) == BATCHER_KNOWN);
+    proposal.epoch = 1;
+    CHECK(batcher_loop_wants(loop, 0, BATCHER_NOTARIZATION, &proposal) == BATCHER_ELSEWHERE);
+    return 0;
+}
+
 /* What a caller may do wrong. */
 static int mistakes(void) {
     struct batcher_loop loop = {0};
@@ -434,11 +483,13 @@ static int mistakes(void) {
     struct batcher_proposal proposal;
     struct batcher_attestation list[VALIDATORS];
     struct batcher_step step;
+    struct batcher_progress progress;
     struct batcher_task task;
     struct batcher_vote vote;
     static uint8_t room[ROOM];
-    uint64_t count;
-    bool replaces, verdict = true;
+    uint64_t count, last;
+    bool replaces, verdict = true, verdicts[] = {true, true, true};
+    const uint32_t signers[] = {0, 2, 3};
     memset(&options, 0, sizeof options);
     memset(&proposal, 0, sizeof proposal);
     memset(&vote, 0, sizeof vote);
@@ -446,6 +497,11 @@ static int mistakes(void) {
     CHECK(batcher_loop_poll(&loop, &task) == BATCHER_NONE && batcher_loop_hears(&loop, 0) == BATCHER_NONE);
     CHECK(batcher_loop_give(&loop, 0, room, ROOM, &count, &replaces) == BATCHER_NONE);
     CHECK(batcher_loop_own_vote(&loop, 0, &vote) == BATCHER_NONE);
+    CHECK(batcher_loop_message(&loop, 0, &proposal, room, ROOM, &count) == BATCHER_NONE);
+    CHECK(batcher_loop_progress(&loop, 1, &progress) == BATCHER_NONE);
+    CHECK(batcher_loop_views(&loop, &count, &last) == BATCHER_NONE);
+    CHECK(batcher_loop_listed(&loop, room, 0, list, VALIDATORS, &count) == BATCHER_NONE);
+    CHECK(batcher_loop_wants(&loop, 0, 0, &proposal) == BATCHER_NONE);
     CHECK(batcher_loop_held(&loop, 0, &vote.kind, &proposal, room, ROOM, &count) == BATCHER_NONE);
     CHECK(batcher_loop_start(&loop, &options, NULL, 0, NULL, 0) == BATCHER_MALFORMED);
     options.participants = VALIDATORS;
@@ -469,6 +525,22 @@ static int mistakes(void) {
     CHECK(batcher_loop_poll(&loop, &task) == BATCHER_DONE && task.task == BATCHER_TASK_ENTER);
     CHECK(task.proposal.view == 1 && task.proposal.epoch == 0);
     CHECK(batcher_loop_poll(&loop, &task) == BATCHER_IDLE);
+    /* What is signed is the namespace, with how many bytes it has, and the subject. */
+    proposal.view = 5;
+    CHECK(batcher_loop_message(&loop, 3, &proposal, room, ROOM, &count) == BATCHER_MALFORMED);
+    CHECK(batcher_loop_message(&loop, BATCHER_FINALIZATION, &proposal, room, 65, &count) == BATCHER_SHORT);
+    CHECK(count == 66);
+    CHECK(batcher_loop_message(&loop, BATCHER_NULLIFICATION, &proposal, room, 26, &count) == BATCHER_DONE);
+    CHECK(count == 26);
+    CHECK(memcmp(room, "\0\0\0\0\0\0\0\1c\1\0\0\0\0\0\0\0\0\0\0\0\0\0\0\0\5", 26) == 0);
+    proposal.view = 0;
+    /* Nobody has entered a view, and nothing was said in it. */
+    CHECK(batcher_loop_views(&loop, &count, &last) == BATCHER_DONE && count == 0 && last == 0);
+    CHECK(batcher_loop_progress(&loop, 1, &progress) == BATCHER_DONE && !progress.has_leader && !progress.has_proposal);
+    CHECK(progress.nullifies.pending + progress.nullifies.verified == 0 && !progress.nullifies.certified);
+    CHECK(batcher_loop_enter(&loop, 1, 0) == BATCHER_DONE);
+    CHECK(batcher_loop_views(&loop, &count, &last) == BATCHER_DONE && count == 1 && last == 0);
+    CHECK(batcher_loop_progress(&loop, 1, &progress) == BATCHER_DONE && progress.has_leader && progress.leader == 0);
     vote.kind = 3;
     CHECK(batcher_loop_vote(&loop, 2, &vote, &admission) == BATCHER_MALFORMED);
     CHECK(batcher_loop_cast(&loop, &vote, true) == BATCHER_MALFORMED);
@@ -481,7 +553,7 @@ static int mistakes(void) {
     CHECK(batcher_loop_cast(&loop, &vote, true) == BATCHER_NOT_VERIFIED);
     vote.attestation.signer = 2;
     CHECK(batcher_loop_vote(&loop, VALIDATORS, &vote, &admission) == BATCHER_UNKNOWN);
-    CHECK(batcher_loop_certificate(&loop, 2, 3, &proposal, room, 0, true) == BATCHER_MALFORMED);
+    CHECK(batcher_loop_certificate(&loop, 2, 3, &proposal, room, 0, NULL, 0) == BATCHER_MALFORMED);
     proposal.view = 1;
     CHECK(batcher_loop_kept(&loop, 3, &proposal, room, ROOM, &count) == BATCHER_MALFORMED);
     CHECK(batcher_loop_kept(&loop, BATCHER_NULLIFICATION, &proposal, room, ROOM, &count) == BATCHER_IDLE);
@@ -491,19 +563,27 @@ static int mistakes(void) {
     CHECK(batcher_loop_lend(&loop, 0, 0, &step, list, VALIDATORS - 1) == BATCHER_SHORT);
     CHECK(batcher_loop_lend(&loop, 0, 0, &step, list, VALIDATORS) == BATCHER_IDLE);
     /* A certificate that is forged blocks its peer, and a good one from beyond the window is taken in. */
-    CHECK(batcher_loop_certificate(&loop, 3, BATCHER_NULLIFICATION, &proposal, room, 9, false) == BATCHER_FORGED);
+    CHECK(batcher_loop_certificate(&loop, 3, BATCHER_NULLIFICATION, &proposal, room, 9, NULL, 0) == BATCHER_FORGED);
     CHECK(batcher_loop_poll(&loop, &task) == BATCHER_DONE && task.task == BATCHER_TASK_BLOCK);
     CHECK(task.participant == 3 && task.cause == BATCHER_CAUSE_CERTIFICATE);
     proposal.view = 100;
     CHECK(batcher_loop_hears(&loop, 2) == BATCHER_DONE && batcher_loop_hears(&loop, VALIDATORS) == BATCHER_DROPPED);
-    CHECK(batcher_loop_certificate(&loop, 2, BATCHER_FINALIZATION, &proposal, room, 9, false) == BATCHER_FORGED);
+    size_t length = list_of(room, signers, 3, BATCHER_FINALIZATION, &proposal);
+    verdicts[1] = false;
+    CHECK(batcher_loop_certificate(&loop, 2, BATCHER_FINALIZATION, &proposal, room, length, verdicts, 3)
+          == BATCHER_FORGED);
     CHECK(batcher_loop_hears(&loop, 2) == BATCHER_DROPPED);
+    CHECK(batcher_loop_wants(&loop, 2, BATCHER_FINALIZATION, &proposal) == BATCHER_DROPPED);
     CHECK(batcher_loop_poll(&loop, &task) == BATCHER_DONE && task.task == BATCHER_TASK_BLOCK);
     CHECK(task.participant == 2 && task.cause == BATCHER_CAUSE_CERTIFICATE);
-    CHECK(batcher_loop_certificate(&loop, 2, BATCHER_FINALIZATION, &proposal, room, 9, true) == BATCHER_DROPPED);
-    CHECK(batcher_loop_certificate(&loop, 0, BATCHER_FINALIZATION, &proposal, room, 9, true) == BATCHER_DONE);
+    verdicts[1] = true;
+    CHECK(batcher_loop_certificate(&loop, 2, BATCHER_FINALIZATION, &proposal, room, length, verdicts, 3)
+          == BATCHER_DROPPED);
+    CHECK(batcher_loop_certificate(&loop, 0, BATCHER_FINALIZATION, &proposal, room, length, verdicts, 3)
+          == BATCHER_DONE);
     CHECK(batcher_loop_hears(&loop, 0) == BATCHER_DONE);
-    CHECK(batcher_loop_kept(&loop, BATCHER_FINALIZATION, &proposal, room, 8, &count) == BATCHER_SHORT && count == 9);
+    CHECK(batcher_loop_kept(&loop, BATCHER_FINALIZATION, &proposal, room, 8, &count) == BATCHER_SHORT);
+    CHECK(count == length);
     CHECK(batcher_loop_certified(&loop, 3, &proposal) == BATCHER_MALFORMED);
     CHECK(batcher_loop_certified(&loop, BATCHER_NULLIFICATION, &proposal) == BATCHER_IDLE);
     CHECK(batcher_loop_certified(&loop, BATCHER_FINALIZATION, &proposal) == BATCHER_DONE);
@@ -513,7 +593,8 @@ static int mistakes(void) {
     CHECK(batcher_loop_give(&loop, 1, room, ROOM, &count, &replaces) == BATCHER_DONE && replaces);
     CHECK(batcher_loop_kept(&loop, BATCHER_FINALIZATION, &proposal, room, ROOM, &count) == BATCHER_NOT_WRITTEN);
     CHECK(batcher_loop_wrote(&loop, 1) == BATCHER_DONE);
-    CHECK(batcher_loop_kept(&loop, BATCHER_FINALIZATION, &proposal, room, ROOM, &count) == BATCHER_DONE && count == 9);
+    CHECK(batcher_loop_kept(&loop, BATCHER_FINALIZATION, &proposal, room, ROOM, &count) == BATCHER_DONE);
+    CHECK(count == length);
     CHECK(batcher_loop_own_vote(&loop, 0, &vote) == BATCHER_IDLE);
     /* The bytes are of another participant, of another epoch, or are damaged. */
     CHECK(batcher_loop_start(&loop, &options, (const uint8_t *)"c", 1, NULL, 0) == BATCHER_DONE);
@@ -527,7 +608,11 @@ static int mistakes(void) {
     CHECK(batcher_loop_start(&loop, &options, (const uint8_t *)"c", 1, room, count) == BATCHER_DONE);
     batcher_loop_free(&loop);
     batcher_loop_free(&loop);
-    return 0;
+    options.begins = true;
+    CHECK(batcher_loop_start(&loop, &options, (const uint8_t *)"c", 1, NULL, 0) == BATCHER_DONE);
+    int line = lists(&loop);
+    batcher_loop_free(&loop);
+    return line;
 }
 
 int main(int count, char **words) {

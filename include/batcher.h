@@ -118,7 +118,8 @@ enum batcher_report {
 /* What a validator has to do, by the members of `struct batcher_task` that it is said in. */
 enum batcher_task_code {
     BATCHER_TASK_BLOCK, /* drop what `participant` sends and close its connection, for `cause` */
-    BATCHER_TASK_FINAL, /* `proposal` is final, and so are those that it builds on */
+    BATCHER_TASK_FINAL, /* `proposal` is final, and so are those that it builds on. Where WRITE comes next, hold
+                         * it until that is done: it has the finalization */
     BATCHER_TASK_CAST, /* cast `vote`, of an earlier life, again */
     BATCHER_TASK_SEND_VOTE, /* send `vote` to all others */
     BATCHER_TASK_SEND_CERTIFICATE, /* send that of `kind` and the round of `proposal` to all others */
@@ -240,8 +241,8 @@ struct batcher_loop_options {
 };
 
 /* Does nothing. Its name has the version of this header, so a library of another one doesn't link. */
-void batcher_abi_5(void);
-__attribute__((used)) static void (*const batcher_abi)(void) = batcher_abi_5;
+void batcher_abi_6(void);
+__attribute__((used)) static void (*const batcher_abi)(void) = batcher_abi_6;
 
 /* The library takes its memory by these three, which a program defines: c/heap.c does, over malloc. A block
  * is aligned by 16, and `at` is never null, also where the request is refused. */
@@ -403,11 +404,24 @@ uint8_t batcher_loop_wrote(struct batcher_loop *validator, uint64_t number);
 uint8_t batcher_loop_vote(struct batcher_loop *validator, uint64_t peer, const struct batcher_vote *vote,
                           struct batcher_admission *out);
 
-/* A certificate of a peer, as bytes, and whether they certify what it names. By one from beyond the window
- * a validator that fell behind goes on, since it is learned. FORGED: its peer is given to be blocked next. */
+/* A certificate of a peer, as bytes, and whether each of the attestations that they list attests what it names.
+ * It certifies where all do. Bytes that list none, as `batcher_loop_listed` says, take no verdicts. By one from beyond
+ * the window a validator that fell behind goes on, since it is learned. FORGED: its peer is given to be blocked next.
+ * MALFORMED also where there isn't one verdict on each. */
 uint8_t batcher_loop_certificate(struct batcher_loop *validator, uint64_t peer, uint8_t kind,
                                  const struct batcher_proposal *proposal, const uint8_t *bytes,
-                                 size_t bytes_length, bool certifies);
+                                 size_t bytes_length, const bool *verdicts, size_t verdicts_length);
+
+/* What the bytes of a certificate list. VERIFY: the attestations of a quorum of different participants, on which
+ * verdicts are wanted, and how many they are. FORGED: it is no such list, so nothing is to be verified. SHORT: the
+ * list has fewer places than there are participants. */
+uint8_t batcher_loop_listed(const struct batcher_loop *validator, const uint8_t *bytes, size_t bytes_length,
+                            struct batcher_attestation *list, size_t list_length, uint64_t *count);
+
+/* Whether a certificate of this kind, and of the round of the proposal, is looked at that this peer sends: ask
+ * before it is verified. KNOWN, ELSEWHERE, DROPPED and UNKNOWN say why it isn't. */
+uint8_t batcher_loop_wants(const struct batcher_loop *validator, uint64_t peer, uint8_t kind,
+                           const struct batcher_proposal *proposal);
 
 /* VERIFY: verdicts are wanted on the attestations of the list. SHORT: the list has fewer places than there
  * are participants. With view 0 they are of the next construction; IDLE: it wants none, and its view rests.
@@ -423,12 +437,20 @@ uint8_t batcher_loop_conclude(struct batcher_loop *validator, uint8_t kind,
                               const struct batcher_attestation *list, size_t list_length,
                               const bool *verdicts, size_t verdicts_length);
 
+/* The bytes to sign for a subject, and to verify a signature on it: no other subject has the same ones, and none
+ * in another namespace. SHORT: the room is too short for so many. */
+uint8_t batcher_loop_message(const struct batcher_loop *validator, uint8_t kind,
+                             const struct batcher_proposal *proposal, uint8_t *room, size_t room_length,
+                             uint64_t *count);
+
 /* A vote of its own, and whether it attests: what was to be signed, or to be cast again. Verify it: all would
  * block a validator that sends one which doesn't. It is sent only where a task says so. NOT_VERIFIED: nothing is
  * written, and it is to be signed again once a time is over; meanwhile another may be. */
 uint8_t batcher_loop_cast(struct batcher_loop *validator, const struct batcher_vote *vote, bool attests);
 
-/* The leader's index isn't looked at, and can't be changed. */
+/* The leader can't be changed. Where it is another participant, and is blocked or absent, the view is given up, as by
+ * `batcher_loop_expire`, and nothing is sent again. It is absent where no vote and no certificate of the window came of it
+ * since twice as many views were entered as there are participants. */
 uint8_t batcher_loop_enter(struct batcher_loop *validator, uint64_t view, uint32_t leader);
 
 /* Whether a proposal is valid. One of its own is. Of one that isn't, the view is given up. */
@@ -440,6 +462,13 @@ uint8_t batcher_loop_judge(struct batcher_loop *validator, const struct batcher_
  * of the current view, the finalization of the final view, the certificates of the two newest views, and in turn
  * those of four others. How far the view is says why it takes so long. */
 uint8_t batcher_loop_expire(struct batcher_loop *validator, uint64_t view, struct batcher_progress *out);
+
+/* How far a view is, and so why it hangs. */
+uint8_t batcher_loop_progress(const struct batcher_loop *validator, uint64_t view,
+                              struct batcher_progress *out);
+
+/* Which view it is in, and the highest that is final. Each is 0 where there is none yet. */
+uint8_t batcher_loop_views(const struct batcher_loop *validator, uint64_t *current, uint64_t *last);
 
 /* Whether what this peer sends is looked at: ask before its certificate is verified. DROPPED: it isn't. */
 uint8_t batcher_loop_hears(const struct batcher_loop *validator, uint64_t peer);

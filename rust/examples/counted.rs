@@ -134,7 +134,7 @@ fn attend<const BYTES: usize>(validator: &mut Loop<[u8; BYTES]>, task: Task<[u8;
         Task::Sign(subject) => {
             let own = vote::<BYTES>(0, subject);
             let signature = &own.attestation().signature;
-            validator
+            let _ = validator
                 .signed(subject, signature, |_| vec![true])
                 .expect("memory is there");
         }
@@ -214,13 +214,13 @@ fn play_stall<const BYTES: usize>(views: u64, participants: u32, stall: Stall) {
             .expect("memory is there")
             .expect("it goes on")
         {
-            Task::Enter(view) if view.get() > views => return,
-            Task::Enter(view) if stall == Stall::Passed => {
+            Task::Enter { view, .. } if view.get() > views => return,
+            Task::Enter { view, .. } if stall == Stall::Passed => {
                 let round = Number::new(Epoch::zero(), view);
                 hear_all(&mut validator, participants, Subject::Nullify { round });
             }
             // It leads the even views.
-            Task::Enter(view) if view.get() % 2 == 1 => {
+            Task::Enter { view, .. } if view.get() % 2 == 1 => {
                 let parent = View::new(if are_good { view.get() - 1 } else { 0 });
                 let proposal = proposal(view, parent);
                 hear(&mut validator, 1, Subject::Notarize { proposal });

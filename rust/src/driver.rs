@@ -202,7 +202,7 @@ use crate::files::{Files, Opened};
 pub use crate::looping::{
     Cause, Counts, KeptError, Listed, Options, PollError, Progress, StartError, Write,
 };
-use crate::looping::{Life, Loop, Receipt, Task, Verdict, Wanted};
+use crate::looping::{Life, Loop, Receipt, Task, Verdict, Wanted, timeout};
 use crate::messages::{Kind, Proposal, Sha256Digest, Subject};
 use crate::positions::{Epoch, Participant, Round, View};
 pub use actions::{Action, Heard, Judge, Propose, Reply, Unsigned};
@@ -225,12 +225,6 @@ const MOST_SIGNATURES: usize = 16;
 
 /// How many certificates of one peer wait to be verified.
 const MOST_CERTIFICATES: usize = 8;
-
-/// A view is final three views later at most, where nothing goes wrong.
-const USUAL: u64 = 3;
-
-/// How often the time of a view doubles at most.
-const MOST_DOUBLED: u64 = 4;
 
 /// What [`Driver::poll`] answers.
 pub type Polled<D, S> =
@@ -563,9 +557,8 @@ impl<D: Store, S: Signer, V: Verifier<Signature = S::Signature>> Driver<D, S, V>
                 self.note_blocked(peer);
                 Action::Block(peer, cause)
             }
-            Task::Enter(view) => {
+            Task::Enter { view, leader } => {
                 (self.view, self.is_expired) = (view, false);
-                let leader = self.running.leader(view);
                 if leader.get() >= self.participants {
                     return Err(DriveError::Leader(view));
                 }
@@ -713,7 +706,8 @@ impl<D: Store, S: Signer, V: Verifier<Signature = S::Signature>> Driver<D, S, V>
             Why::Own(subject, signature) => {
                 let subject = *subject;
                 match self.running.signed(subject, signature, |_| all()) {
-                    Ok(()) => {}
+                    // Where it isn't written, it isn't wanted any more.
+                    Ok(_) => {}
                     Err(SignError::OutOfMemory) => return Err(DriveError::OutOfMemory),
                     Err(SignError::NotVerified) => {
                         self.unsigned.push_back((subject, Unsigned::NotVerified));
@@ -775,16 +769,11 @@ impl<D: Store, S: Signer, V: Verifier<Signature = S::Signature>> Driver<D, S, V>
         sender: Participant,
         certificate: &Listed,
     ) -> Option<Heard<S::Signature>> {
-        let (kind, round) = (certificate.kind(), certificate.round());
         if self.is_blocked(sender) {
-            Some(Heard::Blocked)
-        } else if round.epoch != self.epoch || round.view < self.last {
-            Some(self.outside(round))
-        } else if self.running.has_certificate(kind, round) {
-            Some(Heard::Known)
-        } else {
-            None
+            return Some(Heard::Blocked);
         }
+        let receipt = self.running.unwanted(sender, certificate)?;
+        Some(self.of_certificate(certificate.round(), receipt))
     }
 
     fn of_certificate(&self, round: Round, receipt: Receipt<Verdict>) -> Heard<S::Signature> {
@@ -920,16 +909,14 @@ impl<D: Store, S: Signer, V: Verifier<Signature = S::Signature>> Driver<D, S, V>
     }
 
     /// How long to wait for the view that was entered, where `base` is enough for one while all is
-    /// well. That doubles with each view beyond the usual three that isn't final, up to sixteen
-    /// times. A leader that is blocked here isn't waited for: its view is over at once.
+    /// well: its [`timeout`]. A leader that is blocked here isn't waited for: its view is over at
+    /// once. One of an absent leader is given up already, and has a timer to send it all again.
     pub fn patience(&self, base: Duration) -> Duration {
         let leader = self.running.leader(self.view);
         if !self.is_expired && self.is_blocked(leader) {
             return Duration::ZERO;
         }
-        let usual = self.last.get().saturating_add(USUAL);
-        let doubled = self.view.get().saturating_sub(usual).min(MOST_DOUBLED);
-        base * (1 << doubled)
+        timeout(base, self.last, self.view)
     }
 
     /// What this participant sends is dropped from now on, as where the application has blocked it.

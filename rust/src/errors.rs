@@ -5,6 +5,7 @@ use crate::answers::OwnFault;
 use std::fmt;
 
 /// Why a call was refused. The round or validator is as it was, but where it is `Gone`.
+#[non_exhaustive]
 #[derive(Clone, Copy, Debug, PartialEq, Eq, Hash)]
 pub enum Error {
     /// The scheme has no participant.
@@ -140,6 +141,7 @@ impl From<NoThread> for Error {
 macro_rules! some_of {
     ($(#[$doc:meta])* $name:ident: $($(#[$what:meta])* $reason:ident),+) => {
         $(#[$doc])*
+        #[non_exhaustive]
         #[derive(Clone, Copy, Debug, PartialEq, Eq, Hash)]
         pub enum $name {
             $($(#[$what])* $reason),+
@@ -250,6 +252,7 @@ some_of! {
 }
 
 /// Why a round doesn't take in a vote of the node's own.
+#[non_exhaustive]
 #[derive(Clone, Copy, Debug, PartialEq, Eq, Hash)]
 pub enum OwnError {
     /// It is of another round.

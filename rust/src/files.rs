@@ -7,6 +7,7 @@ use crate::ffi::lock::Locked;
 use crate::ffi::{code, files};
 use crate::looping::{Life, Loop, Options, StartError, Wanted, Write, reserve_bytes};
 use crate::positions::{Participant, View};
+use std::fmt;
 use std::fs::{File, OpenOptions};
 use std::io::{self, ErrorKind, Read, Seek, SeekFrom, Write as _};
 use std::path::Path;
@@ -33,7 +34,23 @@ pub struct NewFiles {
     pair: Pair,
 }
 
+impl fmt::Debug for Files {
+    fn fmt(&self, f: &mut fmt::Formatter<'_>) -> fmt::Result {
+        f.debug_struct("Files")
+            .field("is_open", &self.pair.is_some())
+            .field("writes", &self.writes)
+            .finish_non_exhaustive()
+    }
+}
+
+impl fmt::Debug for NewFiles {
+    fn fmt(&self, f: &mut fmt::Formatter<'_>) -> fmt::Result {
+        f.debug_struct("NewFiles").finish_non_exhaustive()
+    }
+}
+
 /// What was found in the files of a folder.
+#[derive(Debug)]
 pub enum Opened {
     /// Nothing was ever written to them.
     New(NewFiles),

@@ -56,6 +56,7 @@
 //! # }
 //! ```
 
+#![deny(missing_debug_implementations)]
 #![deny(missing_docs)]
 #![deny(unsafe_code)]
 

@@ -10,7 +10,7 @@
 //!
 //! ```
 //! # include!(concat!(env!("CARGO_MANIFEST_DIR"), "/tests/toy/mod.rs"));
-//! use batcher::looping::{Loop, Options, Task, Wanted};
+//! use batcher::looping::{Loop, Options, Signed, Task, Wanted};
 //! use batcher::{Epoch, Participant, Sha256Digest, View};
 //! # fn main() -> Result<(), Box<dyn std::error::Error>> {
 //! let options = Options {
@@ -43,13 +43,16 @@
 //!         Task::Propose { view, parent } => {
 //!             validator.propose(view, parent, Sha256Digest([view.get() as u8; 32]));
 //!         }
-//!         Task::Sign(subject) => validator.signed(subject, &sign(&subject, 0), verify)?,
+//!         Task::Sign(subject) => {
+//!             let signed = validator.signed(subject, &sign(&subject, 0), verify)?;
+//!             assert_eq!(signed, Signed::Written);
+//!         }
 //!         Task::Verify(wanted) => {
 //!             validator.conclude(&wanted, &verify(&wanted))?;
 //!         }
 //!         Task::Final(proposal) => last = proposal.round.view,
 //!         // Nobody else is there, and no view takes too long.
-//!         Task::SendVote(_) | Task::SendCertificate(_) | Task::Enter(_) => {}
+//!         Task::SendVote(_) | Task::SendCertificate(_) | Task::Enter { .. } => {}
 //!         other => unreachable!("nobody else is there, and there is {other:?}"),
 //!     }
 //! }
@@ -60,13 +63,13 @@
 //! # }
 //! ```
 
-use crate::answers::{Admission, BlockReason};
+use crate::answers::{Admission, BlockReason, OwnFault};
 use crate::construct::{ONE_EACH, attestations_of, reserve, reserve_each};
 use crate::errors::{OutOfMemory, SignError, VoteError, unknown};
 use crate::ffi::{self, code, loops};
 use crate::flat::{
     block_of, flat_attestation, flat_proposal, flat_round, flat_subject, flat_vote, kind_code,
-    kind_of, proposal_of, report_of, round_of, subject_of, vote_of,
+    kind_of, own_fault, proposal_of, report_of, round_of, subject_of, vote_of,
 };
 use crate::messages::{Attestation, Certificate, Kind, Proposal, Sha256Digest, Subject, Vote};
 use crate::positions::{Epoch, Participant, Round, View, quorum};
@@ -74,6 +77,7 @@ use std::collections::VecDeque;
 use std::fmt;
 use std::marker::PhantomData;
 use std::sync::atomic::{AtomicBool, AtomicU64, Ordering};
+use std::time::Duration;
 
 /// What a validator is made of.
 #[derive(Clone, Copy, Debug)]
@@ -97,6 +101,7 @@ pub struct Options<'a> {
 }
 
 /// Why there is no validator.
+#[non_exhaustive]
 #[derive(Clone, Copy, Debug, PartialEq, Eq, Hash)]
 pub enum StartError {
     /// Memory was refused.
@@ -150,6 +155,7 @@ impl From<VoteError> for StartError {
 }
 
 /// Why a validator doesn't say what is to be done.
+#[non_exhaustive]
 #[derive(Clone, Copy, Debug, PartialEq, Eq, Hash)]
 pub enum PollError {
     /// Memory was refused. The same call may succeed later.
@@ -243,6 +249,29 @@ pub enum Verdict {
     Forged,
     /// There was one of its kind and view.
     Known,
+}
+
+/// What became of a signature of its own that attests.
+#[must_use = "its vote may not be written"]
+#[non_exhaustive]
+#[derive(Clone, Copy, Debug, PartialEq, Eq, Hash)]
+pub enum Signed {
+    /// Its vote is in the next write, and given to be sent once that lasts.
+    Written,
+    /// Its vote was cast before in this life, so nothing is written.
+    Known,
+    /// Another signature was written for the same subject before, so nothing is.
+    Other,
+    /// A rule refuses its vote by now, so nothing is written.
+    Refused,
+    /// Its round refuses its vote beside an earlier one, so nothing is written.
+    Excluded(OwnFault),
+    /// Its view isn't in the window any more, so nothing is written.
+    Outside,
+    /// The journal has no room left, which 2^64 bytes are.
+    Full,
+    /// The journal is closed, which no call of a loop does. Start again by the disk.
+    Closed,
 }
 
 /// How far a kind of a view is from its certificate. Once that is there, no vote of it waits.
@@ -352,6 +381,7 @@ impl Write {
 struct Confirmed;
 
 /// Why a write isn't confirmed.
+#[non_exhaustive]
 #[derive(Clone, Copy, Debug, PartialEq, Eq, Hash)]
 pub enum WroteError {
     /// Another validator gave it, as one that has started again since.
@@ -373,6 +403,7 @@ impl fmt::Display for WroteError {
 impl std::error::Error for WroteError {}
 
 /// Why a certificate isn't shown.
+#[non_exhaustive]
 #[derive(Clone, Copy, Debug, PartialEq, Eq, Hash)]
 pub enum KeptError {
     /// Memory was refused. The same call may succeed later.
@@ -445,6 +476,7 @@ pub type Listed = Certificate<Vec<u8>>;
 
 /// What is to be done. Each is given once.
 #[must_use = "it isn't given again"]
+#[non_exhaustive]
 #[derive(Debug)]
 pub enum Task<G> {
     /// Write this to the disk, and say so by [`Loop::wrote`] once it lasts. Before that no other
@@ -452,7 +484,7 @@ pub enum Task<G> {
     Write(Write),
     /// Block this participant: drop what it sends, and close its connection.
     Block(Participant, Cause),
-    /// This proposal is final, and so are those that it builds on.
+    /// This proposal is final, and so are those that it builds on. Its finalization is written.
     Final(Proposal),
     /// Send this vote to all others.
     SendVote(Vote<G>),
@@ -461,8 +493,14 @@ pub enum Task<G> {
     /// Send the payload of this proposal to these participants, which may lack it: it is notarized
     /// without them. The validator has it, since its own vote is in the notarization.
     Forward(Proposal, Vec<Participant>),
-    /// This view is entered: start its timer. Once it is over, say so by [`Loop::expire`].
-    Enter(View),
+    /// This view is entered: start its timer. Once it is over, say so by [`Loop::expire`]. Where its
+    /// leader is blocked here, or absent, the view is given up already.
+    Enter {
+        /// The view.
+        view: View,
+        /// Who leads it.
+        leader: Participant,
+    },
     /// Find out which of these attest, and say so by [`Loop::conclude`].
     Verify(Wanted<G>),
     /// Sign this with the key of the validator, and say so by [`Loop::signed`].
@@ -478,6 +516,32 @@ pub enum Task<G> {
     Judge(Proposal),
 }
 
+/// A view is final three views later at most, where nothing goes wrong.
+const USUAL: u64 = 3;
+
+/// How often the time of a view doubles at most.
+const MOST_DOUBLED: u64 = 4;
+
+/// How long the timer of a view is, where `base` is enough for one while all is well and `last` is the
+/// last view that is final. It doubles with each view beyond the usual three that isn't, up to sixteen
+/// times `base`, so that a network gets slow enough for its timers.
+///
+/// ```
+/// use batcher::View;
+/// use batcher::looping::timeout;
+/// use std::time::Duration;
+///
+/// let base = Duration::from_millis(250);
+/// let of = |view| timeout(base, View::new(10), View::new(view)).as_millis();
+/// assert_eq!([11, 12, 13, 14, 15].map(of), [250, 250, 250, 500, 1000]);
+/// assert_eq!(of(10_000), 4000);
+/// ```
+pub fn timeout(base: Duration, last: View, view: View) -> Duration {
+    let usual = last.get().saturating_add(USUAL);
+    let doubled = view.get().saturating_sub(usual).min(MOST_DOUBLED);
+    base.saturating_mul(1 << doubled)
+}
+
 /// A validator, which votes for one participant in one epoch.
 ///
 /// What it does is the proved library's. It stays on the thread on which it was made.
@@ -488,7 +552,8 @@ pub struct Loop<G> {
     epoch: Epoch,
     me: Participant,
     participants: u32,
-    namespace: Vec<u8>,
+    // How many bytes are signed at most.
+    most_bytes: u64,
     // The library's last task, and whether it isn't handed out yet.
     task: loops::Task,
     waits: bool,
@@ -502,12 +567,15 @@ pub struct Loop<G> {
     // What is to be handed out to be verified, and whose attestations were and have no verdict yet.
     queue: VecDeque<Wanted<G>>,
     asked: Vec<(Subject, Vec<u32>)>,
-    // The last view that is final.
-    last: View,
     // The last view that was entered.
     entered: View,
-    // How many writes were given.
+    // No vote of a peer was taken in of a view above this one.
+    heard: View,
+    // How many writes were given, and how many of them last.
     writes: u64,
+    written: u64,
+    // What is final once the write of this number lasts, which has its finalization.
+    held: Option<(Proposal, u64)>,
     // Whether it was made of the crate's files, which write what it gives.
     pub(crate) has_files: bool,
     signatures: PhantomData<G>,
@@ -644,9 +712,11 @@ impl<G: Clone + AsRef<[u8]> + for<'b> TryFrom<&'b [u8]>> Loop<G> {
         let mut list = Vec::new();
         let none = ffi::Attestation::default();
         reserve_each(&mut list, options.participants, none).map_err(|_| StartError::OutOfMemory)?;
-        let mut namespace = Vec::new();
-        reserve(&mut namespace, options.namespace.len()).map_err(|_| StartError::OutOfMemory)?;
-        namespace.extend_from_slice(options.namespace);
+        let mut most_bytes = 0;
+        let none = ffi::Proposal::default();
+        // There is no room, so it says how many they are.
+        let answer = library.message(code::NOTARIZATION, &none, &mut Vec::new(), &mut most_bytes);
+        debug_assert_eq!(answer, code::SHORT);
         Ok(Loop {
             library,
             life: Life::next(begins),
@@ -654,7 +724,7 @@ impl<G: Clone + AsRef<[u8]> + for<'b> TryFrom<&'b [u8]>> Loop<G> {
             epoch: options.epoch,
             me: options.me,
             participants: options.participants,
-            namespace,
+            most_bytes,
             task: loops::Task::default(),
             waits: false,
             list,
@@ -662,9 +732,11 @@ impl<G: Clone + AsRef<[u8]> + for<'b> TryFrom<&'b [u8]>> Loop<G> {
             found: Vec::new(),
             queue: VecDeque::new(),
             asked: Vec::new(),
-            last: View::zero(),
             entered: View::zero(),
+            heard: View::zero(),
             writes: 0,
+            written: 0,
+            held: None,
             has_files: false,
             signatures: PhantomData,
         })
@@ -678,6 +750,9 @@ impl<G: Clone + AsRef<[u8]> + for<'b> TryFrom<&'b [u8]>> Loop<G> {
     /// `Closed`, after which the validator is started again by its disk. After `OutOfMemory` the
     /// same call can be made again.
     pub fn poll(&mut self) -> Result<Option<Task<G>>, PollError> {
+        if let Some((proposal, _)) = self.held.take_if(|it| it.1 < self.written) {
+            return Ok(Some(Task::Final(proposal)));
+        }
         loop {
             if let Some(wanted) = self.queue.pop_front() {
                 return Ok(Some(Task::Verify(wanted)));
@@ -709,12 +784,17 @@ impl<G: Clone + AsRef<[u8]> + for<'b> TryFrom<&'b [u8]>> Loop<G> {
     fn rests_on_a_write(&self) -> bool {
         let flat = &self.task;
         let shows = [code::TASK_SEND_CERTIFICATE, code::TASK_FORWARD].contains(&flat.task);
-        let (mut proposal, mut count) = (flat.proposal, 0);
-        let mut kept = || {
-            self.library
-                .kept(flat.kind, &mut proposal, &mut Vec::new(), &mut count)
-        };
-        shows && kept() == code::NOT_WRITTEN
+        shows && self.is_unwritten(flat.kind)
+    }
+
+    /// Whether the certificate of the task and of this kind isn't shown yet, since something isn't
+    /// written.
+    fn is_unwritten(&self, kind: u8) -> bool {
+        let (mut proposal, mut count) = (self.task.proposal, 0);
+        let kept = self
+            .library
+            .kept(kind, &mut proposal, &mut Vec::new(), &mut count);
+        kept == code::NOT_WRITTEN
     }
 
     /// The task that waits, unless it is done here.
@@ -730,7 +810,11 @@ impl<G: Clone + AsRef<[u8]> + for<'b> TryFrom<&'b [u8]>> Loop<G> {
                     .retain(|found| found.subject.round().view > proposal.round.view);
                 self.asked
                     .retain(|asked| asked.0.round().view > proposal.round.view);
-                self.last = proposal.round.view;
+                // The write that comes next has what makes it final.
+                if self.is_unwritten(kind_code(Kind::Finalization)) {
+                    self.held = Some((proposal, self.writes));
+                    return Ok(None);
+                }
                 Task::Final(proposal)
             }
             // It was verified as this validator was started.
@@ -753,7 +837,7 @@ impl<G: Clone + AsRef<[u8]> + for<'b> TryFrom<&'b [u8]>> Loop<G> {
                     code::OUT_OF_MEMORY => return Err(PollError::OutOfMemory),
                     _ => {
                         self.entered = view;
-                        Task::Enter(view)
+                        Task::Enter { view, leader }
                     }
                 }
             }
@@ -780,8 +864,8 @@ impl<G: Clone + AsRef<[u8]> + for<'b> TryFrom<&'b [u8]>> Loop<G> {
         };
         let mut lacks = Vec::new();
         reserve_each(&mut lacks, self.participants, true)?;
-        for signer in signers(&made.certificate) {
-            if let Some(lacks) = lacks.get_mut(signer as usize) {
+        for it in self.listing(&made.certificate)?.unwrap_or_default() {
+            if let Some(lacks) = lacks.get_mut(it.signer as usize) {
                 *lacks = false;
             }
         }
@@ -830,7 +914,8 @@ impl<G: Clone + AsRef<[u8]> + for<'b> TryFrom<&'b [u8]>> Loop<G> {
         }
         self.ask(&step)?;
         let first = step.proposal.view;
-        let last = self.entered.get().saturating_add(1);
+        // Of a later view nothing waits.
+        let last = self.entered.get().saturating_add(1).min(self.heard.get());
         for view in (first..=last.max(first)).take(1 + EARLY) {
             for kind in [Kind::Notarization, Kind::Nullification, Kind::Finalization] {
                 if (view, kind_code(kind)) == (first, step.kind) {
@@ -949,7 +1034,10 @@ impl<G: Clone + AsRef<[u8]> + for<'b> TryFrom<&'b [u8]>> Loop<G> {
             return Err(WroteError::NotWritten);
         }
         match self.library.wrote(write.number) {
-            code::DONE => Ok(()),
+            code::DONE => {
+                self.written = write.number + 1;
+                Ok(())
+            }
             // It is the one that is under way, since there is no other, and it was there once.
             other => unknown(other),
         }
@@ -972,11 +1060,14 @@ impl<G: Clone + AsRef<[u8]> + for<'b> TryFrom<&'b [u8]>> Loop<G> {
             .library
             .vote(u64::from(sender.get()), &flat, &mut self.answer)
         {
-            code::DONE => Ok(Receipt::Answered(Admission {
-                added: self.answer.added,
-                block: block_of(self.answer.block),
-                report: report_of(&self.answer, vote)?,
-            })),
+            code::DONE => {
+                self.heard = self.heard.max(vote.round().view);
+                Ok(Receipt::Answered(Admission {
+                    added: self.answer.added,
+                    block: block_of(self.answer.block),
+                    report: report_of(&self.answer, vote)?,
+                }))
+            }
             code::ELSEWHERE => Ok(Receipt::Outside),
             code::DROPPED => Ok(Receipt::Dropped),
             code::UNKNOWN => Ok(Receipt::Unknown),
@@ -986,26 +1077,65 @@ impl<G: Clone + AsRef<[u8]> + for<'b> TryFrom<&'b [u8]>> Loop<G> {
     }
 
     /// The attestations that a certificate is made of: of a quorum of different participants. It
-    /// certifies where each attests its subject. None where it is no such list.
+    /// certifies where each attests its subject. None where it is no such list, or has a signature
+    /// that is none of the scheme's.
     ///
     /// # Errors
     ///
     /// `OutOfMemory`.
     pub fn attestations(&self, certificate: &Listed) -> Result<Option<Wanted<G>>, OutOfMemory> {
-        let bytes = certificate.content();
-        let mut all: Vec<u32> = Vec::new();
-        reserve(&mut all, bytes.len() / EACH)?;
-        all.extend(signers(bytes));
-        all.sort_unstable();
-        let differ = all.windows(2).all(|pair| pair[0] < pair[1]);
-        let take_part = all.last().is_some_and(|last| *last < self.participants);
-        let is_quorum = all.len() >= quorum(self.participants) as usize;
-        if !differ || !take_part || !is_quorum {
-            return Ok(None);
+        match self.listing(certificate.content())? {
+            Some(list) => self.wanted_of(certificate.subject(), &list),
+            None => Ok(None),
         }
-        let subject = certificate.subject();
+    }
+
+    /// What becomes of a certificate of this participant that isn't looked at.
+    pub(crate) fn unwanted(
+        &self,
+        sender: Participant,
+        certificate: &Listed,
+    ) -> Option<Receipt<Verdict>> {
+        let (subject, peer) = (certificate.subject(), u64::from(sender.get()));
+        let kind = kind_code(subject.kind());
+        match self.library.wants(peer, kind, &flat_subject(&subject)) {
+            code::DONE => None,
+            code::KNOWN => Some(Receipt::Answered(Verdict::Known)),
+            code::ELSEWHERE => Some(Receipt::Outside),
+            code::DROPPED => Some(Receipt::Dropped),
+            code::UNKNOWN => Some(Receipt::Unknown),
+            other => unknown(other),
+        }
+    }
+
+    /// The list that the bytes of a certificate are.
+    fn listing(&self, bytes: &[u8]) -> Result<Option<Vec<ffi::Attestation>>, OutOfMemory> {
+        let (mut list, mut count) = (Vec::new(), 0);
+        reserve_each(&mut list, self.participants, ffi::Attestation::default())?;
+        match self.library.listed(bytes, &mut list, &mut count) {
+            code::VERIFY => {
+                list.truncate(count as usize);
+                Ok(Some(list))
+            }
+            code::FORGED => Ok(None),
+            code::OUT_OF_MEMORY => Err(OutOfMemory),
+            other => unknown(other),
+        }
+    }
+
+    /// What is listed, to be verified, if each signature is one of the scheme's.
+    fn wanted_of(
+        &self,
+        subject: Subject,
+        list: &[ffi::Attestation],
+    ) -> Result<Option<Wanted<G>>, OutOfMemory> {
+        let attestations = match attestations_of(list) {
+            Ok(it) => it,
+            Err(VoteError::SignatureBytes) => return Ok(None),
+            Err(VoteError::OutOfMemory) => return Err(OutOfMemory),
+        };
         let message = self.message(&subject)?;
-        Ok(listed(bytes)?.map(|attestations| Wanted {
+        Ok(Some(Wanted {
             subject,
             message,
             attestations,
@@ -1032,34 +1162,28 @@ impl<G: Clone + AsRef<[u8]> + for<'b> TryFrom<&'b [u8]>> Loop<G> {
         certificate: &Listed,
         verify: impl FnOnce(&Wanted<G>) -> Vec<bool>,
     ) -> Result<Receipt<Verdict>, OutOfMemory> {
-        if sender.get() >= self.participants {
-            return Ok(Receipt::Unknown);
-        }
-        let peer = u64::from(sender.get());
-        match self.library.hears(peer) {
-            code::DONE => {}
-            code::DROPPED => return Ok(Receipt::Dropped),
-            other => unknown(other),
-        }
-        let (kind, round) = (certificate.kind(), certificate.round());
-        if round.epoch != self.epoch || round.view < self.last {
-            return Ok(Receipt::Outside);
-        }
-        if self.has_certificate(kind, round) {
-            return Ok(Receipt::Answered(Verdict::Known));
+        if let Some(receipt) = self.unwanted(sender, certificate) {
+            return Ok(receipt);
         }
         let subject = certificate.subject();
-        let certifies = match self.attestations(certificate)? {
-            Some(wanted) => attest(&wanted, verify),
-            None => false,
-        };
-        match self.library.certificate(
-            peer,
-            kind_code(kind),
-            &flat_subject(&subject),
-            certificate.content(),
-            certifies,
-        ) {
+        let (peer, kind) = (u64::from(sender.get()), kind_code(subject.kind()));
+        let flat = flat_subject(&subject);
+        let bytes = certificate.content();
+        let mut verdicts = Vec::new();
+        if let Some(list) = self.listing(bytes)? {
+            match self.wanted_of(subject, &list)? {
+                Some(wanted) => verdicts = verdicts_on(&wanted, verify),
+                // One of them attests nothing, so it certifies nothing.
+                None => {
+                    reserve(&mut verdicts, list.len())?;
+                    verdicts.resize(list.len(), false);
+                }
+            }
+        }
+        match self
+            .library
+            .certificate(peer, kind, &flat, bytes, &verdicts)
+        {
             code::DONE => Ok(Receipt::Answered(Verdict::Recorded)),
             code::KNOWN => Ok(Receipt::Answered(Verdict::Known)),
             code::FORGED => Ok(Receipt::Answered(Verdict::Forged)),
@@ -1118,8 +1242,7 @@ impl<G: Clone + AsRef<[u8]> + for<'b> TryFrom<&'b [u8]>> Loop<G> {
 
     /// The signature of what was given to be signed. `verify` finds out whether it attests, one
     /// verdict on the one attestation: a signer may err, and all would block this validator for it.
-    /// The vote is given to be sent once it is written. Where a rule refuses it by now, nothing is.
-    /// Then poll.
+    /// The vote is given to be sent once it is written. Where it isn't, [`Signed`] says why. Then poll.
     ///
     /// # Errors
     ///
@@ -1135,7 +1258,7 @@ impl<G: Clone + AsRef<[u8]> + for<'b> TryFrom<&'b [u8]>> Loop<G> {
         subject: Subject,
         signature: &G,
         verify: impl FnOnce(&Wanted<G>) -> Vec<bool>,
-    ) -> Result<(), SignError> {
+    ) -> Result<Signed, SignError> {
         let vote = Vote::new(subject, Attestation::new(self.me, signature.clone()));
         let (flat, wanted) = match self.to_cast(&vote) {
             Ok(it) => it,
@@ -1146,11 +1269,18 @@ impl<G: Clone + AsRef<[u8]> + for<'b> TryFrom<&'b [u8]>> Loop<G> {
                 return Err(error.into());
             }
         };
-        match self.library.cast(&flat, attest(&wanted, verify)) {
-            code::NOT_VERIFIED => Err(SignError::NotVerified),
-            code::OUT_OF_MEMORY => Err(SignError::OutOfMemory),
-            _ => Ok(()),
-        }
+        Ok(match self.library.cast(&flat, attest(&wanted, verify)) {
+            code::DONE => Signed::Written,
+            code::KNOWN => Signed::Known,
+            code::SIGNED => Signed::Other,
+            code::REFUSED => Signed::Refused,
+            code::ELSEWHERE => Signed::Outside,
+            code::FULL => Signed::Full,
+            code::CLOSED => Signed::Closed,
+            code::NOT_VERIFIED => return Err(SignError::NotVerified),
+            code::OUT_OF_MEMORY => return Err(SignError::OutOfMemory),
+            other => Signed::Excluded(own_fault(other)),
+        })
     }
 
     /// An own vote as the library takes it, and its attestation as it is made of these bytes.
@@ -1196,18 +1326,22 @@ impl<G: Clone + AsRef<[u8]> + for<'b> TryFrom<&'b [u8]>> Loop<G> {
     ///
     /// `OutOfMemory`.
     pub fn message(&self, subject: &Subject) -> Result<Vec<u8>, OutOfMemory> {
-        let mut bytes = Vec::new();
-        reserve(&mut bytes, self.namespace.len() + 8 + 1 + 3 * 8 + 32)?;
-        bytes.extend((self.namespace.len() as u64).to_be_bytes());
-        bytes.extend_from_slice(&self.namespace);
-        bytes.push(kind_code(subject.kind()));
-        bytes.extend(subject.round().epoch.get().to_be_bytes());
-        bytes.extend(subject.round().view.get().to_be_bytes());
-        if let Some(proposal) = subject.proposal() {
-            bytes.extend(proposal.parent.get().to_be_bytes());
-            bytes.extend(proposal.payload.0);
+        let (mut bytes, mut count) = (Vec::new(), 0);
+        reserve_bytes(&mut bytes, self.most_bytes)?;
+        loop {
+            match self.ask_message(subject, &mut bytes, &mut count) {
+                code::DONE => return Ok(bytes),
+                code::SHORT => reserve_bytes(&mut bytes, count)?,
+                other => unknown(other),
+            }
         }
-        Ok(bytes)
+    }
+
+    /// Has the library write the bytes to sign, if there is room for them.
+    fn ask_message(&self, subject: &Subject, bytes: &mut Vec<u8>, count: &mut u64) -> u8 {
+        let kind = kind_code(subject.kind());
+        self.library
+            .message(kind, &flat_subject(subject), bytes, count)
     }
 
     /// Proposes this payload in a view, on the proposal of the view `parent`. Then poll.
@@ -1231,6 +1365,18 @@ impl<G: Clone + AsRef<[u8]> + for<'b> TryFrom<&'b [u8]>> Loop<G> {
         let mut flat = loops::Progress::default();
         let answer = self.library.expire(view.get(), &mut flat);
         debug_assert_eq!(answer, code::DONE);
+        self.progress_of(&flat)
+    }
+
+    /// How far a view is, and so why it takes so long. Nothing changes by it.
+    pub fn progress(&self, view: View) -> Progress {
+        let mut flat = loops::Progress::default();
+        let answer = self.library.progress(view.get(), &mut flat);
+        debug_assert_eq!(answer, code::DONE);
+        self.progress_of(&flat)
+    }
+
+    fn progress_of(&self, flat: &loops::Progress) -> Progress {
         Progress {
             leader: flat.has_leader.then(|| Participant::new(flat.leader)),
             has_proposal: flat.has_proposal,
@@ -1239,6 +1385,32 @@ impl<G: Clone + AsRef<[u8]> + for<'b> TryFrom<&'b [u8]>> Loop<G> {
             finalizes: counts_of(&flat.finalizes),
             quorum: quorum(self.participants),
         }
+    }
+
+    /// The view that it is in, also before the first poll: the highest that was entered or is final.
+    /// It is view 0 where there is none yet.
+    pub fn view(&self) -> View {
+        self.views().0
+    }
+
+    /// The highest view that is final, which [`Task::Final`] may not have named yet. It is view 0 where
+    /// there is none yet.
+    pub fn last_final(&self) -> View {
+        self.views().1
+    }
+
+    fn views(&self) -> (View, View) {
+        let (mut current, mut last) = (0, 0);
+        let answer = self.library.views(&mut current, &mut last);
+        debug_assert_eq!(answer, code::DONE);
+        (View::new(current), View::new(last))
+    }
+
+    /// Whether this participant is blocked, so that nothing it sends is looked at. One that takes no
+    /// part is none.
+    pub fn blocked(&self, participant: Participant) -> bool {
+        let hears = || self.library.hears(u64::from(participant.get()));
+        participant.get() < self.participants && hears() == code::DROPPED
     }
 
     /// The proposal of a view that is notarized or final. The parent of another is named by its view.
@@ -1290,11 +1462,26 @@ impl<G: Clone + AsRef<[u8]> + for<'b> TryFrom<&'b [u8]>> Loop<G> {
     }
 }
 
-/// Whether all attest, as the verifier says.
-fn attest<G>(wanted: &Wanted<G>, verify: impl FnOnce(&Wanted<G>) -> Vec<bool>) -> bool {
+/// Whether each attests, as the verifier says.
+fn verdicts_on<G>(wanted: &Wanted<G>, verify: impl FnOnce(&Wanted<G>) -> Vec<bool>) -> Vec<bool> {
     let verdicts = verify(wanted);
     assert_eq!(wanted.attestations.len(), verdicts.len(), "{ONE_EACH}");
-    verdicts.iter().all(|attests| *attests)
+    verdicts
+}
+
+/// Whether all attest.
+fn attest<G>(wanted: &Wanted<G>, verify: impl FnOnce(&Wanted<G>) -> Vec<bool>) -> bool {
+    verdicts_on(wanted, verify).iter().all(|attests| *attests)
+}
+
+impl<G> fmt::Debug for Loop<G> {
+    fn fmt(&self, f: &mut fmt::Formatter<'_>) -> fmt::Result {
+        f.debug_struct("Loop")
+            .field("epoch", &self.epoch)
+            .field("me", &self.me)
+            .field("entered", &self.entered)
+            .finish_non_exhaustive()
+    }
 }
 
 /// Who leads each view.
@@ -1378,41 +1565,6 @@ fn start_error(answer: u8) -> StartError {
 pub(crate) fn reserve_bytes(bytes: &mut Vec<u8>, count: u64) -> Result<(), OutOfMemory> {
     let count = usize::try_from(count).map_err(|_| OutOfMemory)?;
     reserve(bytes, count.saturating_sub(bytes.len()))
-}
-
-/// How many bytes an attestation has in a list.
-const EACH: usize = 4 + 1 + ffi::WIDTH;
-
-/// Who signed the attestations of a list.
-fn signers(bytes: &[u8]) -> impl Iterator<Item = u32> {
-    let all = bytes.get(8..).unwrap_or_default().chunks_exact(EACH);
-    all.filter_map(|one| Some(u32::from_be_bytes(*one.first_chunk::<4>()?)))
-}
-
-/// The attestations of a list: how many there are, and of each its signer, how long its signature
-/// is, and that with zeros behind it.
-fn listed<G: for<'b> TryFrom<&'b [u8]>>(
-    bytes: &[u8],
-) -> Result<Option<Vec<Attestation<G>>>, OutOfMemory> {
-    let mut all = Vec::new();
-    let Some((count, rest)) = bytes.split_first_chunk::<8>() else {
-        return Ok(None);
-    };
-    reserve(&mut all, rest.len() / EACH)?;
-    all.extend(rest.chunks_exact(EACH).map_while(attestation));
-    let is_whole = rest.len() == all.len() * EACH && u64::from_be_bytes(*count) == all.len() as u64;
-    Ok(is_whole.then_some(all))
-}
-
-fn attestation<G: for<'b> TryFrom<&'b [u8]>>(one: &[u8]) -> Option<Attestation<G>> {
-    let (signer, signature) = one.split_first_chunk::<4>()?;
-    let (length, signature) = signature.split_first()?;
-    let (used, zeros) = signature.split_at_checked(usize::from(*length))?;
-    if zeros.iter().any(|byte| *byte != 0) {
-        return None;
-    }
-    let signer = Participant::new(u32::from_be_bytes(*signer));
-    Some(Attestation::new(signer, G::try_from(used).ok()?))
 }
 
 fn cause_of(flat: u8) -> Cause {

@@ -64,7 +64,7 @@ impl First {
                     put(&mut self.disk, &write);
                     self.running.wrote(write).unwrap();
                 }
-                Task::Enter(view) => self.view = view.get(),
+                Task::Enter { view, .. } => self.view = view.get(),
                 Task::Propose { view, parent } => {
                     self.proposed.push((view.get(), parent.get()));
                     let payload = Sha256Digest([view.get() as u8; 32]);

@@ -1,11 +1,13 @@
 //! Files of the crate: whatever a crash leaves of them, what was written is there, and nobody begins
 //! by them where something is.
 
+mod refusing;
 mod shared;
 mod toy;
 
 use batcher::looping::{Loop, Options, StartError, Task, Write, WroteError};
 use batcher::{Epoch, Files, Opened, Participant, Sha256Digest, View};
+use refusing::{each_refused_in_turn, once};
 use shared::{Folder, verdicts};
 use std::ffi::c_int;
 use std::fs::{self, OpenOptions};
@@ -97,6 +99,17 @@ impl Alone {
         Alone::of(opened.start(&options(), leader, verdicts).unwrap(), written)
     }
 
+    /// It goes on by what its files have, or begins where they have nothing.
+    fn start_again(folder: &Path) -> Self {
+        match Files::open(folder).unwrap() {
+            Opened::Written(bytes, files) => {
+                let running = Loop::start(&options(), leader, &bytes, verdicts).unwrap();
+                Alone::of((running, files), &bytes)
+            }
+            Opened::New(new) => Alone::of(new.begin(&options(), leader).unwrap(), &[]),
+        }
+    }
+
     /// What it gives to be written next.
     fn next(&mut self) -> Write {
         loop {
@@ -110,7 +123,7 @@ impl Alone {
                 Task::Sign(subject) => {
                     let signature = sign(&subject, 0);
                     let signed = self.running.signed(subject, &signature, verdicts);
-                    signed.unwrap();
+                    let _ = signed.unwrap();
                 }
                 Task::Verify(wanted) => {
                     self.running.conclude(&wanted, &verdicts(&wanted)).unwrap();
@@ -343,6 +356,41 @@ fn they_are_of_one_validator() {
     alone.write().unwrap();
 }
 
+/// Files take each write once, and none where one before it was passed over.
+#[test]
+fn each_is_written_once_and_in_order() {
+    let folder = Folder::new("order");
+    let mut alone = Alone::create(&folder.0);
+    let refuses = |disk: &mut Files, write: &Write| {
+        let before = folder.both();
+        kind_of(disk.write(write)) == ErrorKind::InvalidInput && folder.both() == before
+    };
+    for _ in 0..20 {
+        let write = alone.next();
+        alone.disk.write(&write).unwrap();
+        assert!(refuses(&mut alone.disk, &write), "it is there already");
+        alone.running.wrote(write).unwrap();
+    }
+    drop(alone);
+    let Opened::Written(bytes, files) = Files::open(&folder.0).unwrap() else {
+        panic!("it is written");
+    };
+    // This one doesn't know that it has files, so it takes for written what its caller says.
+    let running = Loop::start(&options(), leader, &bytes, verdicts).unwrap();
+    let mut alone = Alone::of((running, files), &bytes);
+    alone.write().unwrap();
+    let passed_over = alone.next();
+    alone.running.wrote(passed_over).unwrap();
+    for _ in 0..20 {
+        let write = alone.next();
+        assert!(refuses(&mut alone.disk, &write), "another comes before it");
+        alone.running.wrote(write).unwrap();
+    }
+    drop(alone.disk);
+    let opened = Files::open(&folder.0).unwrap();
+    assert!(matches!(opened, Opened::Written(found, _) if found == alone.written));
+}
+
 // The next frame is cut at each of its bytes, as by a crash.
 #[test]
 fn a_torn_write_is_not_there() {
@@ -461,17 +509,8 @@ fn on_a_full_disk() {
         assert_eq!(wrote, Err(WroteError::NotWritten));
         let written = alone.written.clone();
         // They are closed, so they can be opened again before it is dropped.
-        let mut again = match Files::open(&folder).unwrap() {
-            Opened::Written(bytes, files) => {
-                assert_eq!(bytes, written);
-                let running = Loop::start(&options(), leader, &bytes, verdicts).unwrap();
-                Alone::of((running, files), &bytes)
-            }
-            Opened::New(new) => {
-                assert_eq!(writes, 0);
-                Alone::of(new.begin(&options(), leader).unwrap(), &[])
-            }
-        };
+        let mut again = Alone::start_again(&folder);
+        assert_eq!(again.written, written);
         for _ in 0..20 {
             again.write().unwrap();
         }
@@ -485,6 +524,28 @@ fn a_full_disk_is_an_error() {
     assert!(another("on_a_full_disk", &folder));
 }
 
+/// Nor does a write that lacks memory leave anybody with files of which nobody knows what they have.
+#[test]
+fn a_write_without_memory_is_an_error() {
+    each_refused_in_turn("files", |granted| {
+        let folder = Folder::new("memory");
+        let mut alone = Alone::create(&folder.0);
+        for _ in 0..12 {
+            let write = alone.next();
+            if let Err(fault) = once(granted, || alone.disk.write(&write)) {
+                assert_eq!(fault.kind(), ErrorKind::OutOfMemory);
+                assert_eq!(kind_of(alone.disk.write(&write)), ErrorKind::Other);
+                let wrote = alone.running.wrote(write);
+                assert_eq!(wrote, Err(WroteError::NotWritten));
+                alone = Alone::start_again(&folder.0);
+            } else {
+                alone.running.wrote(write).unwrap();
+            }
+        }
+        Vec::new()
+    });
+}
+
 #[test]
 fn a_failure_is_an_error() {
     let folder = Folder::new("failure");
@@ -494,10 +555,14 @@ fn a_failure_is_an_error() {
     );
     let mut alone = Alone::create(&folder.0);
     alone.write().unwrap();
+    let (written, both) = (alone.written.clone(), folder.both());
     drop(alone);
     let mut options = OpenOptions::new();
     let mut file = options.append(true).open(folder.0.join(NAMES[0])).unwrap();
-    file.write_all(b"something else").unwrap();
+    file.write_all(&b"something else".repeat(100)).unwrap();
     // What is behind the last gate was never finished, so it is cut off.
-    assert!(matches!(Files::open(&folder.0), Ok(Opened::Written(..))));
+    let mut alone = Alone::open(&folder.0, &written);
+    assert_eq!(folder.both(), both);
+    alone.write().unwrap();
+    assert_eq!(found(&folder.both()).unwrap(), Some(alone.written));
 }

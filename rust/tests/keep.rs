@@ -47,7 +47,7 @@ fn go_on(running: &mut Loop<Signature>, disk: &mut Vec<u8>, me: u32) -> Vec<Task
             }
             Task::Sign(subject) => {
                 let signature = sign(&subject, me);
-                running.signed(subject, &signature, verdicts).unwrap();
+                let _ = running.signed(subject, &signature, verdicts).unwrap();
                 given.push(Task::Sign(subject));
             }
             Task::Verify(wanted) => {
@@ -158,14 +158,15 @@ fn of_its_own(granted: &mut Option<u32>) -> Vec<String> {
                 finalizes |= is_finalize(&subject);
                 let signature = sign(&subject, 0);
                 let verify = |wanted: &_| uncounted(|| verdicts(wanted));
-                again(granted, || running.signed(subject, &signature, verify)).unwrap();
+                let signed = || running.signed(subject, &signature, verify);
+                let _ = again(granted, signed).unwrap();
             }
             Task::Verify(wanted) => {
                 let verdicts = verdicts(&wanted);
                 again(granted, || running.conclude(&wanted, &verdicts)).unwrap();
             }
             Task::Judge(it) => running.judge(&it, true),
-            Task::Enter(view) => enters.push(view),
+            Task::Enter { view, .. } => enters.push(view),
             _ => {}
         }
     }

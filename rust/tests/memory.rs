@@ -299,7 +299,8 @@ impl Validator {
                 }
                 Some(Task::Sign(subject)) => {
                     let verify = |wanted: &_| uncounted(|| verdicts(wanted));
-                    again(granted, || running.signed(subject, &[1], verify)).unwrap();
+                    let signed = || running.signed(subject, &[1], verify);
+                    let _ = again(granted, signed).unwrap();
                 }
                 Some(task) => self.answers.push(format!("{task:?}")),
             }

@@ -8,7 +8,7 @@ mod toy;
 
 use batcher::errors::SignError;
 use batcher::looping::{
-    Listed, Loop, Options, Receipt, StartError, Task, Wanted, Write, WroteError,
+    Listed, Loop, Options, Receipt, Signed, StartError, Task, Wanted, Write, WroteError,
 };
 use batcher::positions::Round;
 use batcher::{
@@ -91,20 +91,23 @@ impl Validator {
             }
             Task::SendCertificate(made) => self.messages.push(Message::Certificate(made)),
             Task::Forward(..) => {}
-            Task::Enter(view) => self.view = view,
+            Task::Enter { view, .. } => self.view = view,
             Task::Verify(wanted) => {
                 self.running.conclude(&wanted, &verdicts(&wanted)).unwrap();
             }
-            Task::Sign(subject) => self.sign(subject).unwrap(),
+            Task::Sign(subject) => {
+                let _ = self.sign(subject).unwrap();
+            }
             Task::Propose { view, parent } => {
                 let payload = Sha256Digest([self.payload; 32]);
                 self.running.propose(view, parent, payload);
             }
             Task::Judge(proposal) => self.running.judge(&proposal, true),
+            other => unreachable!("{other:?}"),
         }
     }
 
-    fn sign(&mut self, subject: Subject) -> Result<(), SignError> {
+    fn sign(&mut self, subject: Subject) -> Result<Signed, SignError> {
         let signature = sign(&subject, self.me);
         self.running.signed(subject, &signature, verdicts)
     }
@@ -311,7 +314,7 @@ fn signs_while_a_write_is_under_way() {
             let first = four.first();
             let due = signing.iter().filter(|it| it.0 == turn);
             for (_, subject) in due.copied().collect::<Vec<_>>() {
-                first.sign(subject).unwrap();
+                let _ = first.sign(subject).unwrap();
             }
             if let Some((_, write)) = writing.take_if(|it| it.0 == turn) {
                 put(&mut first.disk, &write);
@@ -398,7 +401,7 @@ fn next_write(running: &mut Loop<Signature>) -> Write {
             Task::Write(write) => return write,
             Task::Sign(subject) => {
                 let signed = running.signed(subject, &sign(&subject, 0), verdicts);
-                signed.unwrap();
+                let _ = signed.unwrap();
             }
             Task::Propose { view, parent } => {
                 running.propose(view, parent, Sha256Digest([1; 32]));
@@ -435,7 +438,7 @@ fn confirms_what_the_files_dont_have() {
         while let Some(task) = running.poll().unwrap() {
             assert!(matches!(
                 task,
-                Task::Enter(_) | Task::Verify(_) | Task::Propose { .. }
+                Task::Enter { .. } | Task::Verify(_) | Task::Propose { .. }
             ));
         }
         drop(disk);
@@ -483,9 +486,10 @@ fn signs_twice() {
         let Task::Sign(subject) = task else {
             return Some(task);
         };
-        it.sign(subject).unwrap();
-        it.sign(subject).unwrap();
-        let _ = it.running.signed(subject, &[5; 7], verdicts);
+        let _ = it.sign(subject).unwrap();
+        assert_ne!(it.sign(subject), Ok(Signed::Written));
+        let bad = it.running.signed(subject, &[5; 7], verdicts);
+        assert_eq!(bad, Err(SignError::NotVerified));
         None
     });
 }
@@ -497,7 +501,7 @@ fn signs_another_subject() {
             return Some(task);
         };
         let round = subject.round();
-        it.sign(Subject::Nullify { round }).unwrap();
+        let _ = it.sign(Subject::Nullify { round }).unwrap();
         None
     });
 }
@@ -507,14 +511,14 @@ fn signs_another_subject() {
 fn signs_what_it_wasnt_asked_for() {
     let mut others = Vec::new();
     play(&mut |it, task| {
-        if let Task::Enter(view) = task {
+        if let Task::Enter { view, .. } = task {
             for (epoch, by) in [(0, 0), (0, 1), (0, 5), (0, 100), (9, 0)] {
                 let round = Round::new(Epoch::new(epoch), View::new(view.get() + by));
                 let parent = View::new(view.get().saturating_sub(1));
                 let proposal = Proposal::new(round, parent, Sha256Digest([9; 32]));
-                it.sign(Subject::Finalize { proposal }).unwrap();
-                it.sign(Subject::Notarize { proposal }).unwrap();
-                it.sign(Subject::Nullify { round }).unwrap();
+                let _ = it.sign(Subject::Finalize { proposal }).unwrap();
+                let _ = it.sign(Subject::Notarize { proposal }).unwrap();
+                let _ = it.sign(Subject::Nullify { round }).unwrap();
             }
         }
         if let Task::SendVote(vote) = &task {
@@ -570,7 +574,7 @@ fn judges_another_proposal() {
 #[test]
 fn judges_what_it_wasnt_asked_about() {
     play(&mut |it, task| {
-        if let Task::Enter(view) = task {
+        if let Task::Enter { view, .. } = task {
             for by in 0..40 {
                 let round = Round::new(Epoch::zero(), View::new(view.get() + by));
                 let proposal = Proposal::new(round, View::zero(), Sha256Digest([9; 32]));
@@ -611,7 +615,7 @@ fn proposes_on_another_parent() {
 #[test]
 fn proposes_where_another_leads() {
     play(&mut |it, task| {
-        if let Task::Enter(view) = task {
+        if let Task::Enter { view, .. } = task {
             let parent = View::new(view.get() - 1);
             it.running.propose(view, parent, Sha256Digest([7; 32]));
         }
@@ -757,13 +761,13 @@ fn takes_the_wrong_leader() {
 
 #[test]
 fn starts_no_timer() {
-    play(&mut |_, task| (!matches!(task, Task::Enter(_))).then_some(task));
+    play(&mut |_, task| (!matches!(task, Task::Enter { .. })).then_some(task));
 }
 
 #[test]
 fn says_that_any_time_is_over() {
     play(&mut |it, task| {
-        if let Task::Enter(view) = task {
+        if let Task::Enter { view, .. } = task {
             for view in [0, 1, view.get(), view.get() + 1, 1000, u64::MAX] {
                 let _ = it.running.expire(View::new(view));
             }

@@ -5,7 +5,7 @@ mod shared;
 mod toy;
 
 use batcher::errors::SignError;
-use batcher::looping::{Listed, Loop, Receipt, StartError, Task, Verdict, Wanted};
+use batcher::looping::{Listed, Loop, Receipt, Signed, StartError, Task, Verdict, Wanted};
 use batcher::positions::Round;
 use batcher::{Epoch, Kind, Participant, Proposal, Sha256Digest, Subject, View, Vote};
 use shared::{options, put, verdicts};
@@ -69,7 +69,7 @@ impl Station {
         given
     }
 
-    fn signed(&mut self, subject: Subject, signature: &Signature) -> Result<(), SignError> {
+    fn signed(&mut self, subject: Subject, signature: &Signature) -> Result<Signed, SignError> {
         self.running.signed(subject, signature, verdicts)
     }
 
@@ -128,7 +128,8 @@ fn a_bad_signature_is_refused_and_asked_for_again() {
         assert_eq!(station.disk, before);
         given_up(&mut station, 1);
     }
-    assert_eq!(station.signed(nullify(1), &sign(&nullify(1), 0)), Ok(()));
+    let signed = station.signed(nullify(1), &sign(&nullify(1), 0));
+    assert_eq!(signed, Ok(Signed::Written));
     let sent = to_send(&station.go_on());
     assert_eq!(sent, [vote(nullify(1), 0)]);
     assert_ne!(station.disk, before);
@@ -166,6 +167,51 @@ fn to_notarize() -> Station {
 }
 
 #[test]
+fn what_is_signed_is_of_the_namespace() {
+    let station = Station::new(0);
+    let nullify = [
+        &[0, 0, 0, 0, 0, 0, 0, 5][..],
+        b"tests",
+        &[1],
+        &[0; 15],
+        &[3],
+    ]
+    .concat();
+    assert_eq!(station.running.message(&self::nullify(3)), Ok(nullify));
+    let finalize = Subject::Finalize {
+        proposal: proposal(3),
+    };
+    let message = station.running.message(&finalize).unwrap();
+    let end = [&[0; 15][..], &[3], &[0; 7], &[2], &[7; 32]].concat();
+    assert_eq!(message[13], 2);
+    assert_eq!(message[14..], end);
+}
+
+#[test]
+fn says_how_far_a_view_is_and_changes_nothing() {
+    let begun = Loop::<Signature>::begin(&options(0), leader).unwrap();
+    assert_eq!(
+        (begun.view(), begun.last_final()),
+        (View::zero(), View::zero())
+    );
+    let mut station = to_notarize();
+    let before = station.disk.clone();
+    let progress = station.running.progress(View::new(1));
+    assert_eq!(progress.leader, Some(Participant::new(1)));
+    assert!(progress.has_proposal);
+    assert_eq!(progress, station.running.progress(View::new(1)));
+    assert!(station.go_on().is_empty());
+    assert_eq!(station.disk, before);
+    let running = &station.running;
+    assert_eq!(
+        (running.view(), running.last_final()),
+        (View::new(1), View::zero())
+    );
+    assert!(!running.blocked(Participant::new(1)) && !running.blocked(Participant::new(99)));
+    assert_eq!(progress, station.running.expire(View::new(1)));
+}
+
+#[test]
 fn another_is_signed_meanwhile() {
     let mut station = to_notarize();
     let subject = Subject::Notarize {
@@ -185,13 +231,15 @@ fn a_sign_that_isnt_answered_keeps_no_view() {
     for _ in 0..3 {
         given_up(&mut station, 1);
     }
-    assert_eq!(station.signed(nullify(1), &sign(&nullify(1), 0)), Ok(()));
+    let signed = station.signed(nullify(1), &sign(&nullify(1), 0));
+    assert_eq!(signed, Ok(Signed::Written));
     assert_eq!(to_send(&station.go_on()).len(), 1);
     // Neither does one that comes late.
     let subject = Subject::Notarize {
         proposal: proposal(1),
     };
-    let _ = station.signed(subject, &sign(&subject, 0));
+    let signed = station.signed(subject, &sign(&subject, 0));
+    assert_ne!(signed, Ok(Signed::Written));
     let _ = station.go_on();
 }
 
@@ -199,12 +247,14 @@ fn a_sign_that_isnt_answered_keeps_no_view() {
 fn written() -> Vec<u8> {
     let mut station = to_notarize();
     let [notarize, finalize] = subjects();
-    station.signed(notarize, &sign(&notarize, 0)).unwrap();
+    let signed = station.signed(notarize, &sign(&notarize, 0));
+    assert_eq!(signed, Ok(Signed::Written));
     station.hear(notarize, 2);
     let given = station.go_on();
     assert_eq!(to_sign(&given), [finalize]);
     assert!(made(given).is_some());
-    station.signed(finalize, &sign(&finalize, 0)).unwrap();
+    let signed = station.signed(finalize, &sign(&finalize, 0));
+    assert_eq!(signed, Ok(Signed::Written));
     assert_eq!(to_send(&station.go_on()).len(), 1);
     station.disk
 }
@@ -324,5 +374,5 @@ fn one_with_too_many_bytes_is_a_bad_one() {
     let _ = running.expire(View::new(1));
     assert_eq!(asked(&mut running), 1);
     let signed = running.signed(nullify(1), &Long(vec![1; 96]), |_| vec![true]);
-    assert_eq!(signed, Ok(()));
+    assert_eq!(signed, Ok(Signed::Written));
 }

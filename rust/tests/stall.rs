@@ -84,7 +84,7 @@ impl Station {
                 Task::Final(_) => self.finals += 1,
                 Task::SendVote(vote) => messages.push(Message::Vote(vote)),
                 Task::SendCertificate(made) => messages.push(Message::Certificate(made)),
-                Task::Enter(view) => self.view = view,
+                Task::Enter { view, .. } => self.view = view,
                 Task::Verify(wanted) => {
                     let verdicts = verdicts(&wanted);
                     self.running.conclude(&wanted, &verdicts).unwrap();
@@ -92,7 +92,7 @@ impl Station {
                 Task::Sign(subject) => {
                     let signature = sign(&subject, self.me);
                     let signed = self.running.signed(subject, &signature, verdicts);
-                    signed.unwrap();
+                    let _ = signed.unwrap();
                 }
                 Task::Propose { .. } if !self.proposes => {}
                 Task::Propose { view, parent } => {
@@ -101,6 +101,7 @@ impl Station {
                 }
                 Task::Judge(proposal) => self.running.judge(&proposal, true),
                 Task::Forward(..) => {}
+                other => unreachable!("{other:?}"),
             }
         }
         messages

@@ -107,7 +107,7 @@ impl Station {
                     messages.push(Message::Vote(vote));
                 }
                 Task::SendCertificate(made) => messages.push(Message::Certificate(made)),
-                Task::Enter(view) => self.view = view,
+                Task::Enter { view, .. } => self.view = view,
                 Task::Verify(wanted) => {
                     let verdicts = verdicts(&wanted);
                     self.running.conclude(&wanted, &verdicts).unwrap();
@@ -116,7 +116,7 @@ impl Station {
                 Task::Sign(subject) => {
                     let signature = sign(&subject, self.me);
                     let signed = self.running.signed(subject, &signature, verdicts);
-                    signed.unwrap();
+                    let _ = signed.unwrap();
                 }
                 Task::Propose { view, parent } => {
                     let payload = Sha256Digest([view.get() as u8; 32]);
@@ -124,6 +124,7 @@ impl Station {
                 }
                 Task::Judge(proposal) => self.running.judge(&proposal, true),
                 Task::Forward(..) => {}
+                other => unreachable!("{other:?}"),
             }
         }
         messages
@@ -415,7 +416,7 @@ fn verdicts_may_come_late() {
     let task = station.running.poll().unwrap();
     assert!(matches!(
         task,
-        Some(Task::Write(_) | Task::SendCertificate(_) | Task::Enter(_))
+        Some(Task::Write(_) | Task::SendCertificate(_) | Task::Enter { .. })
     ));
 }
 
@@ -430,7 +431,7 @@ fn of_seven() -> Loop<Signature> {
         panic!("its journal is written first");
     };
     running.wrote(write).unwrap();
-    assert!(matches!(running.poll(), Ok(Some(Task::Enter(_)))));
+    assert!(matches!(running.poll(), Ok(Some(Task::Enter { .. }))));
     running
 }
 
@@ -471,7 +472,7 @@ fn views_are_verified_at_once() {
     while let Some(task) = running.poll().unwrap() {
         match task {
             Task::Write(write) => running.wrote(write).unwrap(),
-            Task::SendCertificate(_) | Task::Enter(_) | Task::Propose { .. } => {}
+            Task::SendCertificate(_) | Task::Enter { .. } | Task::Propose { .. } => {}
             other => panic!("{other:?}"),
         }
     }
@@ -582,7 +583,7 @@ fn a_payload_is_forwarded_to_who_may_lack_it() {
                 match task {
                     Task::Sign(subject) => {
                         let signature = sign(&subject, 0);
-                        running.signed(subject, &signature, verdicts).unwrap();
+                        let _ = running.signed(subject, &signature, verdicts).unwrap();
                     }
                     Task::Verify(wanted) => {
                         let verdicts = vec![true; wanted.attestations().len()];

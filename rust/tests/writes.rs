@@ -23,8 +23,9 @@ struct Validator {
     /// What was given to be signed, and to be verified.
     to_sign: Vec<Subject>,
     to_verify: Vec<Wanted<Signature>>,
-    /// What was given to be sent.
+    /// What was given to be sent, and as final.
     sent: Vec<Subject>,
+    finals: Vec<Proposal>,
 }
 
 impl Validator {
@@ -35,6 +36,7 @@ impl Validator {
             to_sign: Vec::new(),
             to_verify: Vec::new(),
             sent: Vec::new(),
+            finals: Vec::new(),
         }
     }
 
@@ -61,6 +63,7 @@ impl Validator {
                 Task::Sign(subject) => self.to_sign.push(subject),
                 Task::Verify(wanted) => self.to_verify.push(wanted),
                 Task::SendVote(vote) => self.sent.push(vote.subject()),
+                Task::Final(proposal) => self.finals.push(proposal),
                 _ => {}
             }
         }
@@ -94,7 +97,7 @@ impl Validator {
     fn sign(&mut self) {
         for subject in std::mem::take(&mut self.to_sign) {
             let signature = sign(&subject, 0);
-            self.running.signed(subject, &signature, verdicts).unwrap();
+            let _ = self.running.signed(subject, &signature, verdicts).unwrap();
         }
     }
 }
@@ -140,6 +143,30 @@ fn what_is_sent_is_on_the_disk() {
     let sent = it.sent.clone();
     let again = it.start_again();
     assert!(!sent.is_empty() && sent.iter().all(|it| again.sent.contains(it)));
+}
+
+/// So a crash leaves a validator that gives it again.
+#[test]
+fn what_is_final_is_on_the_disk() {
+    let mut it = Validator::begin();
+    let proposal = Proposal::new(FIRST, View::zero(), Sha256Digest([7; 32]));
+    it.hear(Subject::Notarize { proposal });
+    it.hear(Subject::Finalize { proposal });
+    let mut writes = 0;
+    while it.finals.is_empty() {
+        match it.next_write() {
+            Some(write) => {
+                assert!(it.finals.is_empty(), "it is in this write");
+                it.put(&write);
+                it.running.wrote(write).unwrap();
+                writes += 1;
+            }
+            None => it.verify(),
+        }
+    }
+    assert!(writes > 0);
+    let again = it.start_again();
+    assert_eq!(again.finals, [proposal]);
 }
 
 #[test]

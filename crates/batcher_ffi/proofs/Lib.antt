@@ -4,3 +4,5 @@ mod Verified
 mod Quorums
 mod Others
 mod Unmade
+mod Puts
+mod Listings

@@ -18,14 +18,15 @@ pub use Rattle.batcher_bytes.specs.Encodings.{signature_format}
 pub use Rattle.batcher_bytes.specs.Format.{Format}
 pub use Rattle.batcher_bytes.specs.Keys.{same_digest}
 pub use Rattle.batcher_bytes.specs.Meanings.{made_of}
-pub use Rattle.batcher_bytes.specs.Messages.{sha256_format, vote_format}
+pub use Rattle.batcher_bytes.specs.Messages.{attestation_format, sha256_format, vote_format, proposal_format, round_format, subject_format}
 pub use Rattle.batcher_bytes.specs.declared.certificates.Content.{Content}
 pub use Rattle.batcher_bytes.specs.declared.fault.DecodeFault.TheVariants.{Version}
 pub use Rattle.batcher_bytes.specs.declared.signature.Keys.{Keys}
 pub use Rattle.batcher_bytes.specs.declared.signature.Signature.{Signature}
+pub use Rattle.batcher_ffi.specs.Certificates.{is_quorum_among, listing_at, listing_in, signers_differ}
 pub use Rattle.batcher_ffi.specs.Flat.{AreIn, attestation_in, raw_in}
 pub use Rattle.batcher_ffi.specs.Loops.{AreDamaged, start_code, CLoop, loop_config, loop_keys, loop_participants, config_by}
-pub use Rattle.batcher_ffi.specs.Output.{Made, WritesCertificate, WritesContent}
+pub use Rattle.batcher_ffi.specs.Output.{FillsRoom, Made, Puts, WritesCertificate, WritesContent}
 pub use Rattle.batcher_ffi.specs.Ownership.{block_owned, owned_or_null}
 pub use Rattle.batcher_ffi.specs.Rounds.{CRound, IsOfQuorum, MakesQuorum, config_of_handle, is_short}
 pub use Rattle.batcher_ffi.specs.Rows.{files_row as R}
@@ -43,9 +44,11 @@ pub use Rattle.batcher_round.specs.Verdicts.{IsAssembled, BatchIsAssembled}
 pub use Rattle.batcher_types.specs.Keys.{participant}
 pub use Rattle.batcher_types.specs.Votes.{content_of, subject_certified, attestation_of, subject_of}
 pub use Rattle.batcher_types.specs.declared.messages.Attestation.{Attestation}
+pub use Rattle.batcher_types.specs.declared.messages.Proposal.{Proposal}
 pub use Rattle.batcher_types.specs.declared.messages.Sha256Digest.{Sha256Digest}
 pub use Rattle.batcher_types.specs.declared.messages.Subject.{Subject}
 pub use Rattle.batcher_types.specs.declared.messages.Vote.{Vote}
+pub use Rattle.batcher_types.specs.declared.positions.Round.{Round}
 pub use Rattle.batcher_types.specs.declared.scheme.keyed.Name.{Name}
 pub use Rattle.batcher_validator.specs.Histories.{again, expired}
 pub use Rattle.batcher_validator.specs.Running.{RunMeets}

@@ -1,5 +1,6 @@
 pub mod Ownership
 pub mod Truths
+pub mod Certificates
 pub mod Rows
 pub mod Flat
 pub mod Output

@@ -1,9 +1,9 @@
 -- What the calls of a validator do whose caller verifies signatures and writes to the disk, and how
 -- its answers are written. What is said of it are the words of `batcher_validator`.
-use Rattle.std.specs.Prelude.{◌≡◌, ◌≢◌, ◌<◌, ◌≤◌, ◌++◌, ◌⊎◌, ◌&&◌, ⊤, ℕ, Bool, true, false}
+use Rattle.std.specs.Prelude.{◌≡◌, ◌≢◌, ◌<◌, ◌≤◌, ◌++◌, ◌⊎◌, ◌&&◌, ◌||◌, ◌==◌, ⊤, ℕ, Bool, true}
 use Rattle.std.specs.Prelude.{List, [], ◌∷◌, cond, length, nat_lt, Contains, MatchBool}
 use Rattle.std.specs.Prelude.{MatchOption, Option, Some, None, Result, Ok, Err, IfErr, IfOk, IfSome}
-use Rattle.std.specs.Prelude.{IsSomeAnd, OnErr, OnOk, is_some, take}
+use Rattle.std.specs.Prelude.{IsSomeAnd, OnErr, OnOk, false, is_some, not, take}
 use Rattle.std.specs.List.{slice_get}
 use Rattle.std.specs.Option.{option_map}
 use Rattle.std.specs.Ordering.{nat_cmp}
@@ -37,7 +37,8 @@ use Rattle.batcher_bytes.specs.declared.signature.Keys.{Keys}
 use Rattle.batcher_bytes.specs.declared.signature.Signature.{Signature}
 use Rattle.batcher_bytes.specs.declared.signature.TheConstants.{WIDTH}
 use Rattle.batcher_bytes.specs.declared.signed.Signed.{Signed}
-use Rattle.batcher_bytes.specs.Messages.{certificate_format, sha256_format, vote_format}
+use Rattle.batcher_bytes.specs.Messages.{certificate_format, sha256_format, signing_format}
+use Rattle.batcher_bytes.specs.Messages.{vote_format}
 use Rattle.batcher_bytes.specs.declared.fault.DecodeFault.TheVariants.{Version}
 use Rattle.batcher_journal.specs.Causes.{AreNoText, Contradicts, IsAnothers}
 use Rattle.batcher_journal.specs.Text.{Contents, IsText, OwnerFields, owner_format}
@@ -58,7 +59,7 @@ use Rattle.batcher_validator.specs.declared.looping.Next.TheVariants.{Do, Write}
 use Rattle.batcher_validator.specs.declared.starting.LoopFault.{LoopFault}
 use Rattle.batcher_validator.specs.declared.starting.LoopFault.TheVariants.{NotOpened, NotStarted}
 use Rattle.batcher_validator.specs.declared.starting.LoopFault.TheVariants.{OutOfMemory as NoMemoryToStart}
-use Rattle.batcher_node.specs.Events.{certificate_came, peer_in, view_entered, vote_came}
+use Rattle.batcher_node.specs.Events.{certificate_came, peer_in, vote_came}
 use Rattle.batcher_node.specs.Nodes.{IsLedByAnother, IsNext, NodeConfig, NodeView, node_config}
 use Rattle.batcher_node.specs.Nodes.{slot_at}
 use Rattle.batcher_node.specs.Represents.{IsHeard, MayNeedIn, ahead_answer, is_heard}
@@ -77,7 +78,7 @@ use Rattle.batcher_validator.specs.Histories.{refused}
 use Rattle.batcher_validator.specs.Queues.{HasKey}
 use Rattle.batcher_validator.specs.Running.{HasConstructed, ForEachRun, Gives, HasBegun}
 use Rattle.batcher_validator.specs.Running.{IsReadyTask, IsRunning, RunCasts, RunMayWrite, RunMeets}
-use Rattle.batcher_validator.specs.Running.{CatchesUp, RunStays}
+use Rattle.batcher_validator.specs.Running.{CatchesUp, RunEnters, RunStays}
 use Rattle.batcher_validator.specs.Shelves.{IsToAnnounce, kind_and_round}
 use Rattle.batcher_validator.specs.Tasks.{IsGivenMeanwhile, NothingIsDue, NothingIsDueMeanwhile}
 use Rattle.batcher_validator.specs.declared.task.PollFault.{PollFault}
@@ -101,7 +102,8 @@ use Rattle.batcher_verdicts.specs.Judging.{same_signature}
 use Rattle.batcher_ffi.specs.contracts.caller.CallerTruth.TheImpl.{ghosts}
 use Rattle.batcher_ffi.specs.declared.caller.Caller.{Caller}
 use Rattle.batcher_ffi.specs.declared.codes.TheConstants.{BEGUN, CLOSED, DAMAGED, DONE, ELSEWHERE}
-use Rattle.batcher_ffi.specs.declared.codes.TheConstants.{DROPPED, FULL, IDLE, KNOWN, MALFORMED}
+use Rattle.batcher_ffi.specs.declared.codes.TheConstants.{DROPPED, FORGED, FULL, IDLE, KNOWN}
+use Rattle.batcher_ffi.specs.declared.codes.TheConstants.{MALFORMED, UNKNOWN}
 use Rattle.batcher_ffi.specs.declared.codes.TheConstants.{LEADER_CHANGED, NOT_BEGUN, NOT_GIVEN}
 use Rattle.batcher_ffi.specs.declared.codes.TheConstants.{NOT_OWN, NOT_VERIFIED, NOT_WRITTEN}
 use Rattle.batcher_ffi.specs.declared.codes.TheConstants.{OTHER_OWNER, OTHER_VERSION}
@@ -118,6 +120,7 @@ use Rattle.batcher_ffi.specs.Flat.{AreIn, fault_in, kind_in, proposal_of_flat, r
 use Rattle.batcher_ffi.specs.Flat.{raw_vote_in, round_of_flat, subject_in, vote_of_flat}
 use Rattle.batcher_ffi.specs.Answers.{AnswersVote, ahead_code, enter_code, receipt_code}
 use Rattle.batcher_ffi.specs.Answers.{verdict_code}
+use Rattle.batcher_ffi.specs.Certificates.{AreVerdictsOn, certifies_by, listing_in}
 use Rattle.batcher_ffi.specs.Output.{FillsRoom, WritesAll}
 use Rattle.batcher_ffi.specs.Rounds.{AreOfParticipants, AreVerifiedBy, IsVerifiedBy, is_one_of}
 use Rattle.batcher_ffi.specs.Tasks.{IsProposedIn, OthersStay, task_in}
@@ -178,6 +181,13 @@ loop_disk l = disk_of l.validator
 abbrev pub loop_writing : CLoop → Option (ℕ × List ℕ)
 loop_writing l = under_way_of l.validator
 
+-- what is signed for a subject, in the namespace of its journal's owner
+abbrev pub loop_namespace : CLoop → List ℕ
+loop_namespace l = l.validator.voter.journal.contents.owner.1.1.1.1
+
+abbrev pub message_of : CLoop → Subject Sha256Digest → List ℕ
+message_of l subject = (signing_format sha256_format).encoding (loop_namespace l, subject)
+
 -- the certificates that it keeps
 abbrev pub kept_in : CLoop → List (Certificate ProofView Sha256Digest)
 kept_in l = l.validator.shelf.certificates
@@ -190,6 +200,12 @@ module _ (handle : Option CLoop) where
   abbrev pub AreVerifiedFor : ℕ → FlatProposal → List FlatAttestation → List Bool → Type 0
   AreVerifiedFor kind proposal list verdicts =
       IfSome handle (λ l. AreVerifiedBy (loop_keys l) kind proposal list verdicts)
+
+  -- or on those that the bytes of a certificate list
+  abbrev pub AreVerifiedIn : ℕ → FlatProposal → List ℕ → List Bool → Type 0
+  AreVerifiedIn kind proposal bytes verdicts =
+      IfSome handle (λ l. IfSome (subject_in kind proposal) (λ subject.
+      AreVerdictsOn (loop_keys l) (loop_participants l) subject bytes verdicts))
 
 -- and the votes of earlier lives that its journal has
 abbrev pub earlier_in : CLoop → List (Vote Signature Sha256Digest)
@@ -337,6 +353,12 @@ hears_code l peer =
     cond (is_heard (loop_config l) l.validator.voter.node
     (peer_in (loop_config l) (record { 0 = peer }))) DONE DROPPED
 
+-- whether a round is of another epoch, or of a view before the final one
+abbrev pub is_over_in : CLoop → Round → Bool
+is_over_in l round =
+    not (round.epoch.0 == l.validator.voter.node.epoch.0)
+    || nat_lt round.view.0 l.validator.voter.node.window.finalized
+
 -- Attestations of a subject are lent, on which verdicts are wanted: of what is looked at.
 pub record IsLentBy
     (LooksAt : Subject Sha256Digest → List (Attestation Signature) → Type 0) (out : FlatStep)
@@ -372,6 +394,48 @@ module _ (l : CLoop) (code : ℕ) where
     pub lacks : code ≢ IDLE → loop_disk l ≢ loop_log l
     pub waits : code ≢ IDLE → loop_writing l ≡ None
     pub written : code ≢ IDLE → WritesAll owed room list count code
+
+  -- The bytes to sign for a subject, where its kind is one.
+  abbrev pub AsksMessage : ℕ → FlatProposal → List ℕ → List ℕ → ℕ → ℕ → Type 0
+  AsksMessage kind proposal room list old count =
+      MatchOption (subject_in kind proposal)
+      ((code ≡ MALFORMED) × ((list ≡ room) × (count ≡ old)))
+      (λ subject. WritesAll (message_of l subject) room list count code)
+
+  -- Which view it is in, and the highest that is final: none is where they are 0.
+  pub record AsksViews (current last : ℕ) : Type 0 where
+    pub codes : code ≡ DONE
+    pub current_is : current ≡ l.validator.voter.node.window.current
+    pub last_is : last ≡ l.validator.voter.node.window.finalized
+
+  -- The attestations that the bytes of a certificate list, where they are those of a quorum.
+  pub record AsksListing (bytes : List ℕ) (room list : List FlatAttestation) (old count : ℕ)
+      : Type 0 where
+    pub codes : is_one_of (VERIFY ∷ FORGED ∷ SHORT ∷ OUT_OF_MEMORY ∷ []) code ≡ true
+    pub listed : code ≡ VERIFY → IsSomeAnd (listing_in (loop_participants l) bytes) (λ all.
+        (count ≡ length all) × FillsRoom raw_in all room list)
+    pub forged : code ≡ FORGED → listing_in (loop_participants l) bytes ≡ None
+    pub short : code ≡ SHORT → length room < loop_participants l
+    pub fits : code ≡ VERIFY → loop_participants l ≤ length room
+    pub needed : code ≡ OUT_OF_MEMORY → 1 ≤ length bytes
+    pub stays : code ≢ VERIFY → (list ≡ room) × (count ≡ old)
+
+  -- Whether a certificate of a kind and a round is looked at that a peer sends, and why it isn't.
+  pub record SaysIfWanted (peer : ℕ) (kind : Kind) (round : Round) : Type 0 where
+    pub codes : is_one_of (DONE ∷ KNOWN ∷ ELSEWHERE ∷ DROPPED ∷ UNKNOWN ∷ []) code ≡ true
+    pub unknown : code ≡ UNKNOWN → loop_participants l ≤ peer
+    pub takes_part : code ≢ UNKNOWN → peer < loop_participants l
+    pub dropped : code ≡ DROPPED → hears_code l peer ≡ DROPPED
+    pub heard : is_one_of (DONE ∷ KNOWN ∷ ELSEWHERE ∷ []) code ≡ true → hears_code l peer ≡ DONE
+    pub over : code ≡ ELSEWHERE → is_over_in l round ≡ true
+    pub not_over : is_one_of (DONE ∷ KNOWN ∷ []) code ≡ true → is_over_in l round ≡ false
+    pub known : code ≡ KNOWN → HasKey kind_and_round (kept_in l) (kind, round)
+    pub none : code ≡ DONE → HasKey kind_and_round (kept_in l) (kind, round) → ⊥
+
+  abbrev pub AsksWanted : ℕ → ℕ → FlatProposal → Type 0
+  AsksWanted peer kind proposal =
+      MatchOption (kind_in kind) (code ≡ MALFORMED) (λ typed.
+      SaysIfWanted peer typed (round_of_flat proposal))
 
   -- A certificate is kept, and its proposal is written.
   pub record NamesKept (key : Kind × Round) (kind : ℕ) (out : FlatProposal) : Type 0 where
@@ -481,7 +545,8 @@ module _ (before : CLoop) (code : ℕ) (after : CLoop) where
         ⊎ IsToAnnounce before.validator.given.announced (kept_in before))
     pub refused : OnErr answer LoopRests
     pub closed : code ≡ CLOSED → after.validator.voter.journal.is_open ≡ false
-    pub full : code ≡ FULL → after.validator.voter.journal.is_open ≡ true
+    pub memory : code ≡ OUT_OF_MEMORY → after.validator.voter.journal.is_open ≡ true
+    pub full : code ≢ FULL
     pub on_disk : loop_copy after ≡ loop_copy before
 
   -- What is handed out is under way, and nothing else changes.
@@ -569,10 +634,19 @@ module _ (before : CLoop) (code : ℕ) (after : CLoop) where
         (IsOfPeer peer certificate)
     pub on_disk : loop_copy after ≡ loop_copy before
 
-  abbrev pub HearsCertificate : ℕ → ℕ → FlatProposal → List ℕ → Bool → Type 0
-  HearsCertificate peer kind proposal bytes certifies =
+  -- there isn't one verdict on each attestation that its bytes list
+  pub record IsUnlike (bytes : List ℕ) (verdicts : List Bool) : Type 0 where
+    pub code_is : code ≡ MALFORMED
+    pub unlike : IsSomeAnd (listing_in (loop_participants before) bytes) (λ all.
+        length verdicts ≢ length all)
+    pub same : after ≡ before
+
+  -- Whether they certify is what is true of them.
+  abbrev pub HearsCertificate : ℕ → ℕ → FlatProposal → List ℕ → List Bool → Type 0
+  HearsCertificate peer kind proposal bytes verdicts =
       IfRead (subject_in kind proposal) (Unit {0}) (λ subject.
-      IsNotCopied bytes ⊎ CertificateCame peer subject bytes certifies)
+      IsUnlike bytes verdicts ⊎ (IsNotCopied bytes ⊎ CertificateCame peer subject bytes
+      (certifies_by (loop_keys before) (loop_participants before) subject bytes)))
 
   -- Where no kind is ready, its view rests.
   pub record Lends (old out : FlatStep) (room list : List FlatAttestation) : Type 0 where
@@ -650,6 +724,7 @@ module _ (before : CLoop) (code : ℕ) (after : CLoop) where
         RunMayWrite (loop_config before) vote past earlier after.validator))
     pub why : IfErr answer (λ fault. WhyNotCast (loop_config before) same_digest
         before.validator.voter vote fault after.validator.voter)
+    pub full : code ≢ FULL
     pub on_disk : loop_copy after ≡ loop_copy before
 
   -- One that doesn't attest, or whose signer takes no part. Nothing is written.
@@ -663,11 +738,12 @@ module _ (before : CLoop) (code : ℕ) (after : CLoop) where
   CastsOwn vote attests =
       IfRead (vote_of_flat vote) (Unit {0}) (λ typed. IsNotVerified typed attests ⊎ VoteCast typed)
 
-  -- a view, with its leader
+  -- A view, with its leader. It is given up where that is blocked, or absent.
   pub record EntersNext (view leader : ℕ) : Type 0 where
     pub answer : Result ⊤ EnterFault
     pub code_is : code ≡ enter_code answer
-    pub meets : OnOk answer (Notes (did (called (view_entered view (participant leader)))))
+    pub meets : OnOk answer (RunEnters (loop_config before) view (participant leader)
+        before.validator after.validator)
     pub passed : code ≡ PASSED → view < before.validator.voter.node.window.finalized
     pub led : code ≡ LEADER_CHANGED
         → IsLedByAnother (slot_at before.validator.voter.node.rounds view) (participant leader)

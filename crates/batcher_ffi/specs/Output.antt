@@ -1,5 +1,6 @@
 -- What is written into the room that a caller hands in.
-use Rattle.std.specs.Prelude.{◌≡◌, ◌<◌, ◌≤◌, ◌⊎◌, ℕ, List, length, slice_get, Some, is_some, IfSome}
+use Rattle.std.specs.Prelude.{◌≡◌, ◌+◌, ◌++◌, ◌<◌, ◌≤◌, ◌⊎◌, ℕ, List, length, slice_get, Some}
+use Rattle.std.specs.Prelude.{IfSome, drop, is_some, take}
 use Rattle.std.specs.Option.{option_map}
 use Rattle.batcher_types.specs.declared.messages.Sha256Digest.{Sha256Digest}
 use Rattle.batcher_types.specs.declared.messages.Certificate.{Certificate}
@@ -33,6 +34,13 @@ pub record WritesAll (bytes room list : List ℕ) (count code : ℕ) : Type 0 wh
   pub fits : code ≡ DONE → length bytes ≤ length room
   pub written : code ≡ DONE → FillsRoom (λ b. b) bytes room list
   pub stays : code ≡ SHORT → list ≡ room
+
+-- Bytes come at a place of a room, which is as it was behind them.
+pub record Puts (bytes room : List ℕ) (at : ℕ) (new : List ℕ) (end : ℕ) : Type 0 where
+  pub places : length new ≡ length room
+  pub ends : end ≡ at + length bytes
+  pub written : take end new ≡ take at room ++ bytes
+  pub rest : drop end new ≡ drop end room
 
 -- the certificates that rounds of a caller make
 abbrev pub Made : Type 0

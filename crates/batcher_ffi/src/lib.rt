@@ -3,6 +3,7 @@
 
 mod answers;
 mod caller;
+mod certificates;
 mod codes;
 mod evidence;
 mod exports;
@@ -15,6 +16,7 @@ mod loop_exports;
 mod loops;
 mod progress;
 mod rounds;
+mod signing;
 mod tasks;
 mod unboxed;
 mod writing;

@@ -2,8 +2,10 @@
 
 ghost use Rattle.std.specs.Prelude.{◌≡◌, ◌⊎◌, ⊤, None};
 ghost use Rattle.batcher_ffi.specs.Handles.{OnLoop};
-ghost use Rattle.batcher_ffi.specs.Loops.{AreVerifiedFor, AsksCertified, AsksEarlier, AsksKept};
-ghost use Rattle.batcher_ffi.specs.Loops.{AsksOwed, CastsOwn, Concludes, EntersNext, Expires};
+ghost use Rattle.batcher_ffi.specs.Loops.{AreVerifiedFor, AreVerifiedIn, AsksCertified};
+ghost use Rattle.batcher_ffi.specs.Loops.{AsksEarlier, AsksKept, AsksListing, AsksWanted};
+ghost use Rattle.batcher_ffi.specs.Loops.{AsksMessage, AsksOwed, AsksViews, CastsOwn, Concludes};
+ghost use Rattle.batcher_ffi.specs.Loops.{EntersNext, Expires};
 ghost use Rattle.batcher_ffi.specs.Loops.{Gave, GivesHeld, HasNoHeld, HearsCertificate, HearsVote};
 ghost use Rattle.batcher_ffi.specs.Loops.{IsVerifiedFor, Judges, LendsIn, MakesLoop, Polls, Wrote};
 ghost use Rattle.batcher_ffi.specs.Loops.{hears_code};
@@ -113,8 +115,9 @@ pub extern "C" fn batcher_loop_vote(
     loops::receive_vote(validator, peer, vote, out)
 }
 
-/// Takes in a certificate that was sent by the peer with this key, with the caller's verdict on it.
-/// One from beyond the window is taken in too: by it a validator that fell behind goes on.
+/// Takes in a certificate that was sent by the peer with this key, with a verdict on each of the
+/// attestations that its bytes list. One from beyond the window is taken in too: by it a validator
+/// that fell behind goes on.
 #[unsafe(no_mangle)]
 pub extern "C" fn batcher_loop_certificate(
     validator: &mut LoopHandle,
@@ -123,15 +126,53 @@ pub extern "C" fn batcher_loop_certificate(
     kind: u8,
     proposal: &FlatProposal,
     bytes: &[u8],
-    certifies: bool,
+    verdicts: &[bool],
 ) -> u8
+    requires { AreVerifiedIn validator.old.value kind proposal.now bytes.now verdicts.now }
     ensures { OnLoop validator.old.value validator.new.value result (Unit {0}) (λ before after.
-        HearsCertificate before result after peer kind proposal.now bytes.now certifies) }
+        HearsCertificate before result after peer kind proposal.now bytes.now verdicts.now) }
 {
     let Some(validator) = validator.as_mut() else {
         return NONE;
     };
-    loops::receive_certificate(validator, alloc, peer, kind, proposal, bytes, certifies)
+    loops::receive_certificate(validator, alloc, peer, kind, proposal, bytes, verdicts)
+}
+
+/// The attestations that the bytes of a certificate list, on which verdicts are wanted.
+#[unsafe(no_mangle)]
+pub extern "C" fn batcher_loop_listed(
+    validator: &mut LoopHandle,
+    alloc: Global,
+    bytes: &[u8],
+    list: &mut [FlatAttestation],
+    count: &mut u64,
+) -> u8
+    ensures { OnLoop validator.old.value validator.new.value result ((list.new ≡ list.old)
+        × (count.new ≡ count.old)) (λ before after. (after ≡ before)
+        × AsksListing before result bytes.now list.old list.new count.old count.new) }
+{
+    let Some(validator) = validator.as_mut() else {
+        return NONE;
+    };
+    loops::listed(validator, alloc, bytes, list, count)
+}
+
+/// Whether a certificate of this kind, and of the round of the proposal, is looked at that is sent
+/// by the peer with this key. Else it needn't be verified.
+#[unsafe(no_mangle)]
+pub extern "C" fn batcher_loop_wants(
+    validator: &mut LoopHandle,
+    peer: u64,
+    kind: u8,
+    proposal: &FlatProposal,
+) -> u8
+    ensures { OnLoop validator.old.value validator.new.value result ⊤ (λ before after.
+        (after ≡ before) × AsksWanted before result peer kind proposal.now) }
+{
+    let Some(validator) = validator.as_mut() else {
+        return NONE;
+    };
+    loops::wants(validator, peer, kind, proposal)
 }
 
 /// Writes the attestations on which verdicts are wanted, and what they are to attest: for the next
@@ -173,6 +214,26 @@ pub extern "C" fn batcher_loop_conclude(
         return NONE;
     };
     loops::conclude(validator, alloc, kind, proposal, list, verdicts)
+}
+
+/// The bytes to sign for a subject, and to verify a signature on it. No other subject has the same
+/// ones, and none in another namespace.
+#[unsafe(no_mangle)]
+pub extern "C" fn batcher_loop_message(
+    validator: &mut LoopHandle,
+    kind: u8,
+    proposal: &FlatProposal,
+    room: &mut [u8],
+    count: &mut u64,
+) -> u8
+    ensures { OnLoop validator.old.value validator.new.value result ((room.new ≡ room.old)
+        × (count.new ≡ count.old)) (λ before after. (after ≡ before)
+        × AsksMessage before result kind proposal.now room.old room.new count.old count.new) }
+{
+    let Some(validator) = validator.as_mut() else {
+        return NONE;
+    };
+    loops::message(validator, kind, proposal, room, count)
 }
 
 /// Casts a vote of its own, by the caller's verdict on it: one that was to be signed, or to be cast
@@ -236,6 +297,40 @@ pub extern "C" fn batcher_loop_expire(
         return NONE;
     };
     loops::expire(validator, view, out)
+}
+
+/// How far a view is, and so why it hangs.
+#[unsafe(no_mangle)]
+pub extern "C" fn batcher_loop_progress(
+    validator: &mut LoopHandle,
+    view: u64,
+    out: &mut FlatProgress,
+) -> u8
+    ensures { OnLoop validator.old.value validator.new.value result (out.new ≡ out.old)
+        (λ before after. (after ≡ before)
+        × ((result ≡ DONE) × AsksProgress before view out.new)) }
+{
+    let Some(validator) = validator.as_mut() else {
+        return NONE;
+    };
+    loops::ask_progress(validator, view, out)
+}
+
+/// Which view it is in, and the highest that is final.
+#[unsafe(no_mangle)]
+pub extern "C" fn batcher_loop_views(
+    validator: &mut LoopHandle,
+    current: &mut u64,
+    last: &mut u64,
+) -> u8
+    ensures { OnLoop validator.old.value validator.new.value result
+        ((current.new ≡ current.old) × (last.new ≡ last.old))
+        (λ before after. (after ≡ before) × AsksViews before result current.new last.new) }
+{
+    let Some(validator) = validator.as_mut() else {
+        return NONE;
+    };
+    loops::views(validator, current, last)
 }
 
 /// Whether what is sent by the peer with this key is looked at, so that a certificate of another

@@ -8,13 +8,15 @@ ghost use Rattle.batcher_validator.specs.Histories.{answered, refused};
 ghost use Rattle.batcher_validator.specs.Running.{HasConstructed};
 ghost use Rattle.batcher_voter.specs.Needing.{ConstructionNeeds};
 ghost use Rattle.batcher_ffi.specs.Loops.{AnswersPoll, AreDamaged, AreVerifiedFor, AsksCertified};
-ghost use Rattle.batcher_ffi.specs.Loops.{AsksEarlier, AsksKept};
+ghost use Rattle.batcher_ffi.specs.Loops.{AsksEarlier, AsksKept, AsksMessage, AsksViews};
 ghost use Rattle.batcher_ffi.specs.Loops.{AsksOwed, CastCode, CastsOwn, Concludes, EntersNext};
 ghost use Rattle.batcher_ffi.specs.Loops.{Expires};
 ghost use Rattle.batcher_ffi.specs.Loops.{GivesHeld, HasNoHeld};
 ghost use Rattle.batcher_ffi.specs.Flat.{subject_in};
 ghost use Rattle.batcher_ffi.specs.Output.{WritesAll};
+ghost use Rattle.batcher_ffi.specs.Loops.{AreVerifiedIn, AsksListing, AsksWanted, CertificateCame};
 ghost use Rattle.batcher_ffi.specs.Loops.{HearsCertificate, HearsVote, IsConcluded, IsFromAhead};
+ghost use Rattle.batcher_ffi.specs.Loops.{IsNotCopied, SaysIfWanted, is_over_in};
 ghost use Rattle.batcher_ffi.specs.Loops.{IsLent, IsMade, IsOfPeer, IsVerifiedFor, Judges, Lends};
 ghost use Rattle.batcher_ffi.specs.Flat.{kind_in};
 ghost use Rattle.batcher_ffi.specs.Loops.{Gave, Notes, Polls, LoopRests, ShowsKept, VoteCast};
@@ -33,10 +35,11 @@ ghost use Rattle.batcher_ffi.specs.Tasks.{IsProposedIn};
 
 use crate::answers::{ahead_code_of, enter_code_of, verdict_code_of, write_receipt};
 use crate::caller::Caller;
+use crate::certificates::{certifies, listing_of};
 use crate::codes::{
-    BEGUN, CLOSED, DAMAGED, DONE, DROPPED, ELSEWHERE, FULL, IDLE, KNOWN, MALFORMED, NOT_BEGUN,
-    NOT_GIVEN, NOT_OWN, NOT_VERIFIED, NOT_WRITTEN, OTHER_OWNER, OTHER_VERSION, OUT_OF_MEMORY,
-    REFUSED, SHORT, SIGNED, STALE, VERIFY, WRITE,
+    BEGUN, CLOSED, DAMAGED, DONE, DROPPED, ELSEWHERE, FORGED, FULL, IDLE, KNOWN, MALFORMED,
+    NOT_BEGUN, NOT_GIVEN, NOT_OWN, NOT_VERIFIED, NOT_WRITTEN, OTHER_OWNER, OTHER_VERSION,
+    OUT_OF_MEMORY, REFUSED, SHORT, SIGNED, STALE, UNKNOWN, VERIFY, WRITE,
 };
 use crate::flat::{
     FlatAdmission, FlatAttestation, FlatProposal, FlatStep, FlatVote, fault_code, flat_subject,
@@ -44,8 +47,9 @@ use crate::flat::{
 };
 use crate::progress::{FlatProgress, progress};
 use crate::rounds::{is_verified, take_part};
+use crate::signing::write_message;
 use crate::tasks::FlatTask;
-use crate::writing::{attestations_of, copied, write_all, write_wanted};
+use crate::writing::{attestations_of, copied, write_all, write_attestations, write_wanted};
 use batcher_bytes::{Keys, Proof, Signature, Signed, WIDTH};
 use batcher_journal::{OpenFault, Owner};
 use batcher_node::Cast;
@@ -294,7 +298,8 @@ pub fn receive_vote(it: &mut Looping, peer: u64, vote: &FlatVote, out: &mut Flat
     write_receipt(&answer, out)
 }
 
-/// Takes in a certificate that a peer sent, with the caller's verdict on it.
+/// Takes in a certificate that a peer sent, with the caller's verdicts on the attestations that its
+/// bytes list.
 pub fn receive_certificate(
     it: &mut Looping,
     alloc: Global,
@@ -302,13 +307,33 @@ pub fn receive_certificate(
     kind: u8,
     proposal: &FlatProposal,
     bytes: &[u8],
-    certifies: bool,
+    verdicts: &[bool],
 ) -> u8
-    ensures { HearsCertificate it.old result it.new peer kind proposal.now bytes.now certifies }
+    requires { AreVerifiedIn (Some it.old) kind proposal.now bytes.now verdicts.now }
+    ensures { HearsCertificate it.old result it.new peer kind proposal.now bytes.now
+        verdicts.now }
 {
     let Some(subject) = subject_of(kind, proposal) else {
         return MALFORMED;
     };
+    match certifies(alloc, bytes, verdicts, it.validator.participants()) {
+        Ok(Some(certifies)) => take_in(it, alloc, peer, subject, bytes, certifies),
+        Ok(None) => MALFORMED,
+        Err(_) => OUT_OF_MEMORY,
+    }
+}
+
+fn take_in(
+    it: &mut Looping,
+    alloc: Global,
+    peer: u64,
+    subject: Subject<Sha256Digest>,
+    bytes: &[u8],
+    certifies: bool,
+) -> u8
+    ensures { IsNotCopied it.old result it.new bytes.now
+        ⊎ CertificateCame it.old result it.new peer subject bytes.now certifies }
+{
     let Ok(copied) = copied(alloc, bytes) else {
         return OUT_OF_MEMORY;
     };
@@ -317,6 +342,67 @@ pub fn receive_certificate(
         return catch_up(it, peer, certificate);
     }
     hear_certificate(it, peer, certificate)
+}
+
+/// The attestations that the bytes of a certificate list, on which verdicts are wanted.
+pub fn listed(
+    it: &Looping,
+    alloc: Global,
+    bytes: &[u8],
+    list: &mut [FlatAttestation],
+    count: &mut u64,
+) -> u8
+    ensures { AsksListing it.now result bytes.now list.old list.new count.old count.new }
+{
+    if !has_room(it, list) {
+        return SHORT;
+    }
+    match listing_of(alloc, bytes, it.validator.participants()) {
+        Ok(Some(all)) => {
+            *count = all.len() as u64;
+            write_attestations(&all, list);
+            VERIFY
+        }
+        Ok(None) => FORGED,
+        Err(_) => OUT_OF_MEMORY,
+    }
+}
+
+/// Whether a certificate of this kind and round is looked at that the peer sends whose key is the
+/// number.
+pub fn wants(it: &Looping, peer: u64, kind: u8, proposal: &FlatProposal) -> u8
+    ensures { AsksWanted it.now result peer kind proposal.now }
+{
+    match kind_of(kind) {
+        Some(kind) => wants_of(it, peer, kind, proposal.round()),
+        None => MALFORMED,
+    }
+}
+
+fn wants_of(it: &Looping, peer: u64, kind: Kind, round: Round) -> u8
+    ensures { SaysIfWanted it.now result peer kind round }
+{
+    if peer >= it.validator.participants() as u64 {
+        return UNKNOWN;
+    }
+    if !it.validator.voter().node().is_heard(&Name(peer)) {
+        return DROPPED;
+    }
+    if is_over(it, round) {
+        return ELSEWHERE;
+    }
+    match it.validator.certificate(kind, round) {
+        Some(_) => KNOWN,
+        None => DONE,
+    }
+}
+
+// Whether a round is of another epoch, or of a view before the final one.
+fn is_over(it: &Looping, round: Round) -> bool
+    ensures { result ≡ is_over_in it.now round }
+{
+    let voter = it.validator.voter();
+    round.epoch != voter.epoch() || round.view.0 < voter.node().window().finalized
 }
 
 /// Whether what the peer sends whose key is the number is looked at.
@@ -569,6 +655,25 @@ fn cast_code_of(
     }
 }
 
+/// The bytes to sign for a subject, in the namespace of its journal's owner.
+pub fn message(
+    it: &Looping,
+    kind: u8,
+    proposal: &FlatProposal,
+    room: &mut [u8],
+    count: &mut u64,
+) -> u8
+    ensures { AsksMessage it.now result kind proposal.now room.old room.new count.old count.new }
+{
+    match subject_of(kind, proposal) {
+        Some(subject) => {
+            let namespace = it.validator.voter().journal().namespace();
+            write_message(namespace, &subject, room, count)
+        }
+        None => MALFORMED,
+    }
+}
+
 /// Enters a view with its leader.
 pub fn enter(it: &mut Looping, view: u64, leader: u32) -> u8
     ensures { EntersNext it.old result it.new view leader }
@@ -593,6 +698,25 @@ pub fn expire(it: &mut Looping, view: u64, out: &mut FlatProgress) -> u8
     *out = progress(it, view);
     it.validator.expire(View(view));
     it.validator.send_again();
+    DONE
+}
+
+/// How far a view is.
+pub fn ask_progress(it: &Looping, view: u64, out: &mut FlatProgress) -> u8
+    ensures code { result ≡ DONE }
+    ensures progress { AsksProgress it.now view out.new }
+{
+    *out = progress(it, view);
+    DONE
+}
+
+/// Which view it is in, and which one is final.
+pub fn views(it: &Looping, current: &mut u64, last: &mut u64) -> u8
+    ensures { AsksViews it.now result current.new last.new }
+{
+    let window = it.validator.voter().node().window();
+    *current = window.current;
+    *last = window.finalized;
     DONE
 }
 

@@ -79,8 +79,8 @@ fn write_content(content: &Content<Caller>, step: &mut FlatStep, list: &mut [Fla
     }
 }
 
-// Writes as many as there is room for.
-fn write_attestations(from: &[Attestation<Signature>], to: &mut [FlatAttestation])
+/// Writes as many as there is room for.
+pub fn write_attestations(from: &[Attestation<Signature>], to: &mut [FlatAttestation])
     ensures { FillsRoom raw_in from.now to.old to.new }
 {
     for index in 0..from.len().min(to.len()) {

@@ -261,6 +261,13 @@ impl<G: Codec, D: Digest + Codec, L: Log> Journal<G, D, L> {
         self.kept.owner.lend().participant
     }
 
+    /// The namespace in which they are signed.
+    pub fn namespace(&self) -> &[u8]
+        ensures { result.now ≡ self.now.contents.owner.1.1.1.1 }
+    {
+        self.kept.owner.lend().namespace
+    }
+
     /// The round below which nothing is signed.
     pub fn floor(&self) -> Round
         ensures { result ≡ self.now.contents.floor }
@@ -295,6 +302,14 @@ impl<G: Codec, D: Digest + Codec, L: Log> Journal<G, D, L> {
         ensures { result.now ≡ self.now.contents.certificates }
     {
         &self.kept.certificates[..self.written]
+    }
+
+    /// The certificates that the next write puts there.
+    pub fn unwritten(&self) -> &[Certified]
+        ensures { result.now ≡ self.now.unwritten }
+    {
+        let from = self.written;
+        &self.kept.certificates[from..]
     }
 
     /// Keeps a certificate, of a round from the floor on. It is on the disk with the next votes,

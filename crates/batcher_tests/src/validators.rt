@@ -468,6 +468,76 @@ fn catch_up(station: &mut Station, rt: &impl Abort, alloc: Global) -> Result<(),
     Ok(())
 }
 
+#[test]
+fn views_of_who_is_absent_or_blocked_are_given_up(rt: HostRuntime) -> Result<(), Fail> {
+    let mut station = Station::new(&rt, rt.alloc(), ME)?;
+    let given_up = give_up(&mut station, &rt, rt.alloc());
+    drop(station);
+    given_up
+}
+
+fn give_up(station: &mut Station, rt: &impl Abort, alloc: Global) -> Result<(), Fail> {
+    // Nothing comes of the first participant in two turns of all four.
+    for view in 1..=8 {
+        assert!(rt; !gives_up(station, rt, view, 0)?);
+        nullified(station, alloc, view, 1)?;
+    }
+    assert!(rt; gives_up(station, rt, 9, 0)?);
+    nullified(station, alloc, 9, 1)?;
+    // Certificates of another came, and it waits for itself.
+    assert!(rt; !gives_up(station, rt, 10, 1)?);
+    nullified(station, alloc, 10, 1)?;
+    assert!(rt; !gives_up(station, rt, 11, ME)?);
+    nullified(station, alloc, 11, 1)?;
+    // Any vote is a sign of life, also of a view that is over.
+    station.hear(0, nullify(1))?;
+    assert!(rt; !gives_up(station, rt, 12, 0)?);
+    nullified(station, alloc, 12, 1)?;
+    let forged = Certificate::new(nullify(13), AttestationList::new(Vec::new(alloc)));
+    let heard = station.validator.receive_certificate(Name(2), forged)?;
+    assert_eq!(rt; heard, Receipt::Answered(Verdict::Forged));
+    assert!(rt; gives_up(station, rt, 13, 2)?);
+    Ok(())
+}
+
+// It enters a view with its leader. It says whether it gives that up.
+fn gives_up(station: &mut Station, rt: &impl Abort, view: u64, leader: u32) -> Result<bool, Fail> {
+    let mut is_over = false;
+    for _ in 0..16 {
+        match station.poll() {
+            Ok(Some(Task::Enter(next))) => {
+                assert_eq!(rt; next, View(view));
+                assert!(rt; station.validator.enter(next, Participant(leader)).is_ok());
+            }
+            Ok(Some(Task::Verify)) => {
+                let _ = station.validator.try_construct(&mut station.rng)?;
+            }
+            Ok(Some(Task::Sign(subject))) => {
+                let is_nullify = subject.is_same(&nullify(view));
+                assert!(rt; is_nullify);
+                is_over = true;
+                let signature = station.scheme.sign(Participant(ME), subject);
+                match station.validator.cast(Vote::new(subject, signature)) {
+                    Ok(_) => {}
+                    Err(_) => return Err(Fail::new("the vote isn't cast")),
+                }
+            }
+            Ok(Some(_)) => {}
+            Ok(None) => return Ok(is_over),
+            Err(_) => return Err(Fail::new("nothing is given")),
+        }
+    }
+    Err(Fail::new("it has something to do for ever"))
+}
+
+// A participant sends a nullification of a view.
+fn nullified(station: &mut Station, alloc: Global, view: u64, sender: u32) -> Result<(), Fail> {
+    let certificate = station.certificate(alloc, nullify(view))?;
+    let key = Name(u64::from(sender));
+    let _ = station.validator.receive_certificate(key, certificate)?;
+    Ok(())
+}
+
 // What a validator sends to all others.
 #[derive(Drop)]
 enum Message {

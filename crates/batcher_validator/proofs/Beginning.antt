@@ -2,6 +2,7 @@
 use Rattle.batcher_validator.proofs.Words.{◌≡◌, ◌++◌, ◌∙◌, ℕ, zero, suc, Bool, true, false, List, [], ◌∷◌, Some, None, ap, arith, length, refl, replicate}
 use Rattle.batcher_validator.proofs.Words.{subst, sym, take, Contains, unwrap_or, slice_get, Participant, subject_of, Certificate, Format, Conduct, HasVoted}
 use Rattle.batcher_validator.proofs.Words.{Contents, take_all, Remembers, node_history, started, NodeConfig, NodeView, AreFirst, Recalls, HasBegun}
+use Rattle.batcher_validator.proofs.Words.{◌-◌, ◌<◌, ◌^◌, min, silence_of}
 use Rattle.batcher_validator.proofs.Words.{HasCertificate, IsRunning, ValidatorView, is_over_for, began, nothing_unsigned, only_took, HasStarted}
 use Rattle.batcher_validator.proofs.Going.{never_calm}
 
@@ -30,6 +31,16 @@ none_set (suc n) zero e =
     let differ : false ≡ true = ap (λ o. unwrap_or o true) e in
     absurd cc
 none_set (suc n) (suc i) e = none_set n i e
+
+-- a list of zeros
+all_fresh : (n i : ℕ) → i < n → slice_get {X = ℕ} (replicate n 0) i ≡ Some 0
+all_fresh zero i lt = absurd (omega (arith, lt))
+all_fresh (suc n) zero lt = refl
+all_fresh (suc n) (suc i) lt = all_fresh n i (omega (arith, lt))
+
+pub still_fresh :
+    {n m : ℕ} (silences : List ℕ) → silences ≡ replicate n 0 → n ≡ m → silences ≡ replicate m 0
+still_fresh silences fresh same = subst (λ k. silences ≡ replicate k 0) same fresh
 
 -- a list that is made of false alone
 pub none_resized :
@@ -73,6 +84,7 @@ module _ {S D K G C L : Type 0} (x : NodeConfig D K G C) (validator : ValidatorV
       (blocked : List Bool) (me : Participant) (count : ℕ)
       → count ≡ length validator.voter.journal.contents.votes
       → ((i : ℕ) → slice_get blocked i ≡ Some true → ⊥)
+      → (presence : List ℕ) → presence ≡ replicate (length x.meaning.participants) 0
       → validator.given ≡ record {
         blocked = blocked;
         calm = false;
@@ -91,11 +103,12 @@ module _ {S D K G C L : Type 0} (x : NodeConfig D K G C) (validator : ValidatorV
           posed = 0;
         };
         decided = record { first = 0; end = 0 };
+        presence = presence;
       }
       → validator.shelf.certificates ≡ [] → validator.shelf.handed ≡ 0
       → (has : HasStarted x earlier validator.voter)
       → IsRunning x (began me has.past ∷ []) earlier validator
-  begun blocked me count all none given empty handed has =
+  begun blocked me count all none presence fresh given empty handed has =
       record {
         voting = has.voting;
         in_turn = tt;
@@ -134,6 +147,9 @@ module _ {S D K G C L : Type 0} (x : NodeConfig D K G C) (validator : ValidatorV
           poses = refl;
         };
         decides = rw (given) (λ view from before. absurd (omega (arith, before)));
+        hears = rw (given) (λ i lt.
+            subst (λ h. slice_get presence i ≡ Some (min (silence_of x i h) (2 ^ 64 - 1))) (sym has.asked_nothing)
+            (ap (λ silences. slice_get silences i) fresh ∙ all_fresh (length x.meaning.participants) i lt));
       }
 
 -- It takes in what its disk has.

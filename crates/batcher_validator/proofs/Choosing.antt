@@ -1,6 +1,6 @@
 -- A validator goes on with what it is answered, and with what it gives to be signed, made and judged.
 use Rattle.batcher_validator.proofs.Words.{◌≡◌, ℕ, ◌∷◌, Some, ap, refl, max, Proposal, Subject, View, Conduct, NodeConfig, ValidatorHistory, chose, expired}
-use Rattle.batcher_validator.proofs.Words.{◌∙◌, numbered, refused, Epoch, Round}
+use Rattle.batcher_validator.proofs.Words.{◌∙◌, numbered, gave_up, refused, Epoch, Round}
 use Rattle.batcher_validator.proofs.Words.{gave, later_of, with_refused, IntentView, IsRunning, ValidatorView, MayGive, Judge, Propose, Sign}
 use Rattle.batcher_validator.proofs.Keeping.{kept_still}
 
@@ -54,6 +54,7 @@ module _ {S D K G C L : Type 0} (x : NodeConfig D K G C) (old new : ValidatorVie
             poses = is.intends.poses;
           };
           decides = rw (given) is.decides;
+          hears = rw (given) is.hears;
         }
 
     pub expires :
@@ -87,6 +88,41 @@ module _ {S D K G C L : Type 0} (x : NodeConfig D K G C) (old new : ValidatorVie
             poses = is.intends.poses;
           };
           decides = rw (given) is.decides;
+          hears = rw (given) is.hears;
+        }
+
+    pub gives_up :
+        (view : ℕ) → intent ≡ record old.given.intent {
+          expired = max old.given.intent.expired view;
+        }
+        → IsRunning x (gave_up view ∷ past) earlier new
+    gives_up view to =
+        record {
+          voting = rw (voter) is.voting;
+          in_turn = is.in_turn;
+          blocks = rw (given) is.blocks;
+          calms = rw (given) is.calms;
+          finals = rw (given) is.finals;
+          votes = rw (voter, given) is.votes;
+          votes_again = rw (voter, given) is.votes_again;
+          resends = rw (given) is.resends;
+          begins = rw (voter, given) is.begins;
+          casts = rw (voter, given) is.casts;
+          kept = rw (shelf) (kept_still x past (gave_up view ∷ past) refl old.shelf.certificates (λ c had. had) is.kept);
+          certificates = rw (shelf) is.certificates;
+          asks = rw (given) is.asks;
+          verifies = rw (given) is.verifies;
+          forwards = rw (given) is.forwards;
+          intends = rw (given, to) record {
+            votes_as = is.intends.votes_as;
+            signs = is.intends.signs;
+            refuses = is.intends.refuses;
+            expires = ap (λ before. max before view) is.intends.expires;
+            chooses = is.intends.chooses;
+            poses = is.intends.poses;
+          };
+          decides = rw (given) is.decides;
+          hears = rw (given) is.hears;
         }
 
     pub refuses :
@@ -120,6 +156,7 @@ module _ {S D K G C L : Type 0} (x : NodeConfig D K G C) (old new : ValidatorVie
             poses = is.intends.poses;
           };
           decides = rw (given) is.decides;
+          hears = rw (given) is.hears;
         }
 
     pub signs :
@@ -151,6 +188,7 @@ module _ {S D K G C L : Type 0} (x : NodeConfig D K G C) (old new : ValidatorVie
             poses = is.intends.poses;
           };
           decides = rw (given) is.decides;
+          hears = rw (given) is.hears;
         }
 
     pub proposes :
@@ -183,6 +221,7 @@ module _ {S D K G C L : Type 0} (x : NodeConfig D K G C) (old new : ValidatorVie
             poses = refl;
           };
           decides = rw (given) is.decides;
+          hears = rw (given) is.hears;
         }
 
     pub judges :
@@ -214,4 +253,5 @@ module _ {S D K G C L : Type 0} (x : NodeConfig D K G C) (old new : ValidatorVie
             poses = refl;
           };
           decides = rw (given) is.decides;
+          hears = rw (given) is.hears;
         }

@@ -62,7 +62,7 @@ module _ {S D K G C L : Type 0} (x : NodeConfig D K G C) (old new : ValidatorVie
             λ is_exempt Was count are. sent_raised is_exempt Was old.voter.journal new.voter.journal count p.round raised are,
           ))
           (λ yes. (yes, λ i. or_none (cause_in x (calls_in past) i)))
-          refl
+          old.given.presence is.hears refl
           (rw (certificates) (kept_from x past Before p.round.view.0 refl up c had old.shelf.certificates there is.kept))
           (rw (certificates, handed) (first_from x past Before p.round.view.0 refl up c had old.shelf.certificates
           there (λ key. HasHanded past key) old.shelf.handed is.certificates))
@@ -138,6 +138,7 @@ module _ {S D K G C L : Type 0} (x : NodeConfig D K G C) (old new : ValidatorVie
             intends = rw (given) (still_intent Before (gave (Final p) ∷ Before) old.given.intent refl refl refl refl refl refl
                 moved.intends);
             decides = rw (given) moved.decides;
+            hears = rw (given) moved.hears;
           }
         where
           window : max (window_by past).finalized p.round.view.0 ≡ p.round.view.0
@@ -160,7 +161,7 @@ not_announced x old new given shelf stays still past earlier is =
       λ is_exempt Was count are. sent_still is_exempt Was old.voter.journal new.voter.journal count (still opened).1 are,
     ))
     (λ yes. (yes, λ i. refl))
-    given
+    old.given.presence is.hears given
     (rw (shelf) (kept_still x past past refl old.shelf.certificates (λ d h. h) is.kept))
     (rw (shelf) is.certificates)
 

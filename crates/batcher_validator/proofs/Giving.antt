@@ -130,6 +130,7 @@ module _ {S D K G C L : Type 0} (x : NodeConfig D K G C) (old new : ValidatorVie
           intends = rw (given) (still_intent past (gave (SendVote vote) ∷ past) old.given.intent refl refl refl refl refl refl
               is.intends);
           decides = rw (given) is.decides;
+          hears = rw (given) is.hears;
         }
       where
         from : ℕ
@@ -187,6 +188,7 @@ module _ {S D K G C L : Type 0} (x : NodeConfig D K G C) (old new : ValidatorVie
           intends = rw (given) (still_intent past (gave (Cast vote) ∷ past) old.given.intent refl refl refl refl refl refl
               is.intends);
           decides = rw (given) is.decides;
+          hears = rw (given) is.hears;
         }
       where
         first : AreFirst subject_of (is_over_for floor) (λ s. HasRecast past s) votes count
@@ -239,6 +241,7 @@ module _ {S D K G C L : Type 0} (x : NodeConfig D K G C) (old new : ValidatorVie
         intends = rw (given) (still_intent past (gave (SendCertificate kind number) ∷ past) old.given.intent refl refl refl refl refl refl
             is.intends);
         decides = rw (given) is.decides;
+        hears = rw (given) is.hears;
       }
     where
       c : Certificate C D
@@ -297,6 +300,7 @@ module _ {S D K G C L : Type 0} (x : NodeConfig D K G C) (old new : ValidatorVie
           intends = rw (given) (still_intent past (gave (Block who cause) ∷ past) old.given.intent refl refl refl refl refl refl
               is.intends);
           decides = rw (given) is.decides;
+          hears = rw (given) is.hears;
         }
 
     pub gives_enter :
@@ -342,6 +346,7 @@ module _ {S D K G C L : Type 0} (x : NodeConfig D K G C) (old new : ValidatorVie
           intends = rw (given) (still_intent past (gave (Enter view) ∷ past) old.given.intent refl refl refl refl refl refl
               is.intends);
           decides = rw (given) is.decides;
+          hears = rw (given) is.hears;
         }
       where
         is_next : IsNextIn x past view.0
@@ -382,6 +387,7 @@ module _ {S D K G C L : Type 0} (x : NodeConfig D K G C) (old new : ValidatorVie
           intends = rw (given) (still_intent past (gave Verify ∷ past) old.given.intent refl refl refl refl refl refl
               is.intends);
           decides = rw (given) is.decides;
+          hears = rw (given) is.hears;
         }
 
     pub gives_forward :
@@ -412,6 +418,7 @@ module _ {S D K G C L : Type 0} (x : NodeConfig D K G C) (old new : ValidatorVie
           intends = rw (given) (still_intent past (gave (Forward number) ∷ past) old.given.intent refl refl refl refl refl refl
               is.intends);
           decides = rw (given) is.decides;
+          hears = rw (given) is.hears;
         }
 
     -- votes were verified, or all is to be sent again
@@ -439,6 +446,7 @@ module _ {S D K G C L : Type 0} (x : NodeConfig D K G C) (old new : ValidatorVie
           intends = rw (given) (still_intent past (answered ∷ past) old.given.intent refl refl refl refl refl refl
               is.intends);
           decides = rw (given) is.decides;
+          hears = rw (given) is.hears;
         }
 
   pub begins_again :
@@ -500,6 +508,7 @@ module _ {S D K G C L : Type 0} (x : NodeConfig D K G C) (old new : ValidatorVie
           poses = is.intends.poses;
         };
         decides = rw (given) is.decides;
+        hears = rw (given) is.hears;
       }
     where
       window : old.voter.node.window ≡ window_by past
@@ -543,6 +552,7 @@ becomes_calm x old new voter shelf given nothing past earlier is =
       forwards = rw (given) is.forwards;
       intends = rw (given) is.intends;
       decides = rw (given) is.decides;
+      hears = rw (given) is.hears;
     }
 
 module _ {S D K G C L : Type 0} (x : NodeConfig D K G C) (old : ValidatorView S G D L C)

@@ -4,6 +4,7 @@ use Rattle.batcher_validator.proofs.Words.{take, MatchBool, unwrap_or, count_by,
 use Rattle.batcher_validator.proofs.Words.{Subject, Vote, Round, VoterEvent, VoterHistory, called, held_by, verified, Conduct, is_below, is_over, JournalView}
 use Rattle.batcher_validator.proofs.Words.{numbered, still_over}
 use Rattle.batcher_validator.proofs.Words.{NodeEvent, cause_by, cause_in, constructed, window_after, NodeConfig, NodeView, Window, AreFirst, AreFirstVotes}
+use Rattle.batcher_validator.proofs.Words.{AreSilent, ForEachRun}
 use Rattle.batcher_validator.proofs.Words.{AreKept, HasConstructed, IsRunning, RunMeets, RunStays, RunTakes, ValidatorView, tallied, is_before_view}
 use Rattle.batcher_validator.proofs.Words.{is_over_for, Shelves}
 use Rattle.batcher_validator.proofs.Words.{kind_and_round, HasAnnouncedFrom, HasAskedFrom, HasBlocked, HasHad, HasHanded, HasRecast, HadVoted, HasSent}
@@ -109,13 +110,18 @@ module _ {S D K G C L : Type 0} (x : NodeConfig D K G C) (old new : ValidatorVie
       → IsVoting x (more ++ voter_history past) earlier new.voter
       → Recounts old new f
       → {calm : Bool} → Calms x past After old.given.calm calm
-      → new.given ≡ record old.given { tally = tallied f old.given.tally; calm = calm }
+      → (presence : List ℕ) → AreSilent x After presence
+      → new.given ≡ record old.given {
+        tally = tallied f old.given.tally;
+        calm = calm;
+        presence = presence;
+      }
       → AreKept x After new.shelf.certificates
       → AreFirst kind_and_round (is_before_view (window_by After).finalized)
       (λ key. HasHanded past key)
       new.shelf.certificates new.shelf.handed
       → IsRunning x After earlier new
-  goes_on f is voting recounts {calm = calm} quiet given kept handed =
+  goes_on f is voting recounts {calm = calm} quiet presence hears given kept handed =
       record {
         voting = subst (λ h. IsVoting x h earlier new.voter) (sym (voter_history_more more past)) voting;
         in_turn = in_turn_more x earlier more past is.in_turn;
@@ -169,6 +175,7 @@ module _ {S D K G C L : Type 0} (x : NodeConfig D K G C) (old new : ValidatorVie
         intends = rw (given) (intent_more more past old.given.intent is.intends);
         decides = rw (given) (λ view from before.
             decided_more earlier more past (numbered x.epoch view) (is.decides view from before));
+        hears = rw (given) hears;
       }
     where
       -- of a history with more
@@ -276,7 +283,8 @@ calms_by x event past was is nobody calm = (
 module _ {S D K G C L : Type 0} (x : NodeConfig D K G C) (old new : ValidatorView S G D L C)
     (contents : new.voter.journal.contents ≡ old.voter.journal.contents)
     (is_open : new.voter.journal.is_open ≡ old.voter.journal.is_open)
-    (calm : Bool) (given : new.given ≡ record old.given { calm = calm }) where
+    (calm : Bool) (presence : List ℕ)
+    (given : new.given ≡ record old.given { calm = calm; presence = presence }) where
   pub recounts_still : Recounts old new (λ n. n)
   recounts_still still = (
     sym is_open ∙ still,
@@ -290,11 +298,12 @@ module _ {S D K G C L : Type 0} (x : NodeConfig D K G C) (old new : ValidatorVie
         → (window_by (only_did more ++ past)).finalized ≡ (window_by past).finalized
         → ((c : Certificate C D) → HasHad (only_did more ++ past) c → HasHad past c)
         → Calms x past (only_did more ++ past) old.given.calm calm
+        → AreSilent x (only_did more ++ past) presence
         → IsRunning x past earlier old
         → IsVoting x (more ++ voter_history past) earlier new.voter
         → IsRunning x (only_did more ++ past) earlier new
-    goes more past earlier window had quiet is voting =
-        goes_on x old new more past earlier (λ n. n) is voting recounts_still quiet given
+    goes more past earlier window had quiet hears is voting =
+        goes_on x old new more past earlier (λ n. n) is voting recounts_still quiet presence hears given
         (subst (AreKept x (only_did more ++ past)) (sym shelf)
         (kept_still x past (only_did more ++ past) window old.shelf.certificates had is.kept))
         (rw (shelf, handed, window) is.certificates)
@@ -304,26 +313,32 @@ module _ {S D K G C L : Type 0} (x : NodeConfig D K G C) (old new : ValidatorVie
         → ((w : Window) → (window_after w event).finalized ≡ w.finalized)
         → ((c : Certificate C D) → held_by (called event) ≡ Some c → ⊥)
         → (calm ≡ true → (old.given.calm ≡ true) × ((i : ℕ) → cause_by x event i ≡ None))
+        → ForEachRun x old (λ past earlier. AreSilent x (did (called event) ∷ past) presence)
         → VoterMeets x old.voter new.voter event → RunMeets x old new (did (called event))
-    runs event quiet none nobody meets past earlier is =
+    runs event quiet none nobody hears meets past earlier is =
         goes (called event ∷ []) past earlier (quiet (window_by past))
         (λ c had. elim had [
           | inl held ↦ absurd (none c held)
           | inr before ↦ before
         ])
         (calms_by x event past old.given.calm calm nobody)
+        (hears past earlier is)
         is (meets (voter_history past) earlier is.voting)
 
-    pub run_stays : calm ≡ old.given.calm → VoterStays x old.voter new.voter → RunStays x old new
-    run_stays same stays past earlier is =
-        goes [] past earlier refl (λ c had. had) (λ yes. (sym same ∙ yes, λ i. refl)) is
+    pub run_stays :
+        calm ≡ old.given.calm → presence ≡ old.given.presence
+        → VoterStays x old.voter new.voter → RunStays x old new
+    run_stays same heard stays past earlier is =
+        goes [] past earlier refl (λ c had. had) (λ yes. (sym same ∙ yes, λ i. refl))
+        (rw (heard) is.hears) is
         (stays (voter_history past) earlier is.voting)
 
 -- a call of the voter's node by which a certificate comes, which is kept then
 module _ {S D K G C L : Type 0} (x : NodeConfig D K G C) (old mid new : ValidatorView S G D L C)
     (contents : mid.voter.journal.contents ≡ old.voter.journal.contents)
     (is_open : mid.voter.journal.is_open ≡ old.voter.journal.is_open)
-    (calm : Bool) (given : mid.given ≡ record old.given { calm = calm })
+    (calm : Bool) (presence : List ℕ)
+    (given : mid.given ≡ record old.given { calm = calm; presence = presence })
     (shelf : mid.shelf ≡ old.shelf)
     (voter : new.voter ≡ mid.voter) (given_still : new.given ≡ mid.given)
     (handed : new.shelf.handed ≡ mid.shelf.handed) where
@@ -341,16 +356,17 @@ module _ {S D K G C L : Type 0} (x : NodeConfig D K G C) (old mid new : Validato
       → x.epoch ≡ mid.voter.node.epoch
       → Shelves mid.voter.node.epoch mid.voter.node.window.finalized c mid.shelf.certificates
       new.shelf.certificates
+      → ForEachRun x old (λ past earlier. AreSilent x (did (called event) ∷ past) presence)
       → VoterMeets x old.voter mid.voter event → RunMeets x old new (did (called event))
-  runs_with event c quiet held nobody certifies epoch shelves meets past earlier is =
+  runs_with event c quiet held nobody certifies epoch shelves hears meets past earlier is =
       subst (λ v. IsRunning x (did (called event) ∷ past) earlier (record { voter = v; given = new.given; shelf = new.shelf }))
       (sym voter)
       (subst (λ it. IsRunning x (did (called event) ∷ past) earlier (record { voter = mid.voter; given = it; shelf = new.shelf }))
       (sym given_still)
       (goes_on x old Kept (called event ∷ []) past earlier (λ n. n) is voting
-      (recounts_still x old Kept contents is_open calm given)
+      (recounts_still x old Kept contents is_open calm presence given)
       (calms_by x event past old.given.calm calm nobody)
-      given
+      presence (hears past earlier is) given
       (kept_with x past (did (called event) ∷ past) (quiet (window_by past)) c (certifies past earlier voting)
       old.shelf.certificates new.shelf.certificates had is.kept shelved)
       (rw (handed, shelf, quiet (window_by past)) (first_with x.epoch (window_by past).finalized c
@@ -403,6 +419,7 @@ module _ {S D K G C L : Type 0} (x : NodeConfig D K G C) (old roomy : ValidatorV
         forwards = rw (given) is.forwards;
         intends = rw (given) is.intends;
         decides = rw (given) is.decides;
+        hears = rw (given) is.hears;
       }
 
 module _ {S D K G C L : Type 0} (config : NodeView S G D → NodeConfig D K G C)
@@ -481,8 +498,8 @@ module _ {S D K G C L : Type 0} (x : NodeConfig D K G C) (old mid new : Validato
     learned_here =
         goes_on x old Calm (verified c ∷ []) past earlier (λ n. n) is
         (learned (voter_history past) earlier is.voting)
-        (recounts_still x old Calm contents is_open old.given.calm refl)
-        {calm = old.given.calm} (λ yes. (yes, λ i. refl)) refl
+        (recounts_still x old Calm contents is_open old.given.calm old.given.presence refl)
+        {calm = old.given.calm} (λ yes. (yes, λ i. refl)) old.given.presence is.hears refl
         (kept_with x past Verified refl c certifies old.shelf.certificates new.shelf.certificates
         had is.kept shelved_here)
         (rw (handed, shelf) (first_with x.epoch (window_by past).finalized c
@@ -515,6 +532,7 @@ module _ {S D K G C L : Type 0} (x : NodeConfig D K G C) (old mid new : Validato
           intends = still_intent Verified (took c ∷ Verified) old.given.intent refl refl refl refl refl refl
               learned_here.intends;
           decides = learned_here.decides;
+          hears = learned_here.hears;
         }
       where
         had : (d : Certificate C D) → HasHad (took c ∷ Verified) d → HasHad Verified d

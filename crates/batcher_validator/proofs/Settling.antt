@@ -4,8 +4,8 @@ use Rattle.batcher_validator.proofs.Words.{subject_of, subjects_contradict, Prop
 use Rattle.batcher_validator.proofs.Words.{learned, voted, acts_of, conduct_of, VoterHistory, Conduct, HasVoted, IsCleared, KeepsPolicy}
 use Rattle.batcher_validator.proofs.Words.{voted_final_is_notarized, same_round-true, IsAnotherNotarized, IsRefused, Rule, Contradicts}
 use Rattle.batcher_validator.proofs.Words.{conduct_in, only_did, voter_history, ValidatorHistory, AreDecided, HasDecided, ForEachRun}
-use Rattle.batcher_validator.proofs.Words.{IsNotToSign, IsRunning, window_by, Decided, Epoch, NodeConfig, NodeView, RunMeets, RunStays}
-use Rattle.batcher_validator.proofs.Words.{ValidatorEvent, ValidatorView, numbered, same_epoch}
+use Rattle.batcher_validator.proofs.Words.{IsNotToSign, window_by, Decided, Epoch, NodeConfig, NodeView, RunStays}
+use Rattle.batcher_validator.proofs.Words.{ValidatorView, numbered, same_epoch}
 
 -- What it voted for before it did more it has voted for.
 module _ {D : Type 0} where
@@ -89,6 +89,7 @@ becomes_settled x old new decided voter shelf given are past earlier is =
       forwards = rw (given) is.forwards;
       intends = rw (given) is.intends;
       decides = rw (given) (are past earlier is);
+      hears = rw (given) is.hears;
     }
 
 -- What was noted, and what is behind it.
@@ -136,15 +137,3 @@ decided_not_signed config old epoch view has p here past earlier is wanted may =
         ap (λ e. numbered e p.round.view.0)
         (same_epoch (config old.voter.node).epoch (window_by past) p.round may.0.within ∙ epoch)
         ∙ ap (λ n. numbered old.voter.node.epoch n) here
-
--- Then nothing happens that counts.
-pub meets_then_stays :
-    {S D K G C L : Type 0} (config : NodeView S G D → NodeConfig D K G C)
-    (old mid new : ValidatorView S G D L C) (event : ValidatorEvent D K G C)
-    → config mid.voter.node ≡ config old.voter.node
-    → RunMeets (config old.voter.node) old mid event → RunStays (config mid.voter.node) mid new
-    → RunMeets (config old.voter.node) old new event
-meets_then_stays config old mid new event same meets stays past earlier is =
-    subst (λ x. IsRunning x (event ∷ past) earlier new) same
-    (stays (event ∷ past) earlier
-    (subst (λ x. IsRunning x (event ∷ past) earlier mid) (sym same) (meets past earlier is)))

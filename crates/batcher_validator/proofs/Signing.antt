@@ -1,6 +1,7 @@
 -- A validator's own vote is cast.
 use Rattle.batcher_validator.proofs.Words.{◌≡◌, ℕ, ◌++◌, [], ◌∷◌, Some, None, inl, inr, refl, subst, sym, Certificate, Vote, VoterHistory, called, written}
 use Rattle.batcher_validator.proofs.Words.{Conduct, cause_in, vote_cast, NodeConfig, ToSend, KnownVote, OutsideVote, Activity, Outcome, Option, AreKept}
+use Rattle.batcher_validator.proofs.Words.{AreSilent}
 use Rattle.batcher_validator.proofs.Words.{ForEachRun, IsRunning, RunCasts, RunMayWrite, RunWrites, ValidatorView, calls_in, HasHad, ValidatorHistory, only_did}
 use Rattle.batcher_validator.proofs.Words.{voter_history, window_by, MayGain, Casts, ForEachLife, IsVoting, IsWritten, MayWrite, WritesAndCalls}
 use Rattle.batcher_node.specs.declared.answers.Cast.{Cast}
@@ -15,17 +16,18 @@ module _ {S D K G C L : Type 0} (x : NodeConfig D K G C) (old new : ValidatorVie
       → (window_by (only_did more ++ past)).finalized ≡ (window_by past).finalized
       → ((i : ℕ) → cause_in x (calls_in (only_did more ++ past)) i ≡ cause_in x (calls_in past) i)
       → ((c : Certificate C D) → HasHad (only_did more ++ past) c → HasHad past c)
+      → AreSilent x (only_did more ++ past) old.given.presence
       → IsRunning x past earlier old
       → IsVoting x (more ++ voter_history past) earlier new.voter
       → IsRunning x (only_did more ++ past) earlier new
-  goes more past earlier window quiet had is voting =
+  goes more past earlier window quiet had hears is voting =
       goes_on x old new more past earlier (λ n. n) is voting
       (λ still. (
         (gains still).0,
         λ is_exempt Was count are. sent_gained is_exempt Was old.voter.journal new.voter.journal count vote gains still (λ opened. are),
       ))
       (λ yes. (yes, λ i. quiet i))
-      given
+      old.given.presence hears given
       (subst (λ s. AreKept x (only_did more ++ past) s.certificates) (sym shelf)
       (kept_still x past (only_did more ++ past) window old.shelf.certificates had is.kept))
       (rw (shelf, window) is.certificates)
@@ -48,7 +50,7 @@ module _ {S D K G C L : Type 0} (x : NodeConfig D K G C) (old new : ValidatorVie
                   (λ c had. elim had [
                     | inl held ↦ absurd cc
                     | inr rest ↦ rest
-                  ]) is
+                  ]) is.hears is
                   (subst (λ h. IsVoting x (called (vote_cast vote outcome report) ∷ h) earlier new.voter) before.0 it.voting);
             }
         of_cases (inr now) =
@@ -60,7 +62,7 @@ module _ {S D K G C L : Type 0} (x : NodeConfig D K G C) (old new : ValidatorVie
                     | inl held ↦ absurd cc
                     | inr (inl held) ↦ absurd cc
                     | inr (inr rest) ↦ rest
-                  ]) is
+                  ]) is.hears is
                   (subst (λ h. IsVoting x (called (vote_cast vote outcome report) ∷ h) earlier new.voter) now it.voting);
             }
 
@@ -89,7 +91,7 @@ module _ {S D K G C L : Type 0} (x : NodeConfig D K G C) (old new : ValidatorVie
         | inl same ↦ record {
           more = [];
           is_written = inl refl;
-          running = goes [] past earlier refl (λ i. refl) (λ c had. had) is
+          running = goes [] past earlier refl (λ i. refl) (λ c had. had) is.hears is
               (subst (λ h. IsVoting x h earlier new.voter) same it.voting);
         }
         | inr one ↦ record {
@@ -99,7 +101,7 @@ module _ {S D K G C L : Type 0} (x : NodeConfig D K G C) (old new : ValidatorVie
               (λ c had. elim had [
                 | inl held ↦ absurd cc
                 | inr rest ↦ rest
-              ]) is
+              ]) is.hears is
               (subst (λ h. IsVoting x h earlier new.voter) one it.voting);
         }
       ]

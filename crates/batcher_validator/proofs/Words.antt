@@ -1,26 +1,28 @@
 -- What proofs of this crate use of definitions, and of lemmas from below it.
 pub use Rattle.std.proofs.Common.{◌∙◌, ap, arith, refl, subst, sym, inl, inr, eq-eqb, eqb, get_or, rules}
 pub use Rattle.std.proofs.Math.Seq.{take-append_seam, take-suc}
+pub use Rattle.std.proofs.lemmas.Bool.{eqb-true, eqb-false, ne_eqb, lt-leb}
+pub use Rattle.std.proofs.lemmas.Grind.{get_or_default_zero}
+pub use Rattle.std.proofs.lemmas.List.Edits.{map_over_more}
 pub use Rattle.std.proofs.lemmas.Bool.{cases_lt, le-ltb, lt-ltb, ltb-true, le-leb, leb-true, ltb-false, false≢true}
 pub use Rattle.std.proofs.lemmas.Fn.{filter_same}
 pub use Rattle.std.proofs.lemmas.List.{take_all, length-append, take-append-drop, take-append-le}
-pub use Rattle.std.proofs.lemmas.List.Elements.{recursion_from_All, All-contains, Contains-append_cases, Contains-append_left, Contains-append_right}
+pub use Rattle.std.proofs.lemmas.List.Elements.{All-contains, Contains-append_cases, Contains-append_left, Contains-append_right}
 pub use Rattle.std.proofs.lemmas.List.Elements.{filter_passes, All-contains_itself, All-filter}
 pub use Rattle.std.proofs.lemmas.List.Folds.{Any-from_list_any, list_any_at}
 pub use Rattle.std.proofs.lemmas.List.Edits.{Swapped, swapped_from_swap, length-swap}
 pub use Rattle.std.proofs.lemmas.List.Sorted.{Contains-permutation, IsPermutation-keeps, IsPermutation-swap, IsPermutation-sym}
 pub use Rattle.std.proofs.lemmas.List.Sorted.{IsPermutation-trans, length_permutation}
 pub use Rattle.std.proofs.lemmas.List.Sums.{sum_by-cons, length-filter}
-pub use Rattle.std.proofs.lemmas.Option.{get_or_from_slice_get, slice_get_within, slice_get-get_or}
+pub use Rattle.std.proofs.lemmas.Option.{get_or_from_slice_get, slice_get_within, slice_get-get_or, slice_get-map}
 pub use Rattle.std.specs.List.{slice_get, count_by, filter, list_any, swap}
-pub use Rattle.std.specs.Option.{option_map, option_or}
+pub use Rattle.std.specs.Option.{option_map, option_map_or, option_or}
 pub use Rattle.std.specs.Prelude.{◌≡◌, ◌++◌, ℕ, zero, suc, Bool, true, false, List, [], ◌∷◌, Some, None, length, replicate, take, Contains, unwrap_or, ◌⊎◌, ◌<◌}
 pub use Rattle.std.specs.Prelude.{◌-◌, ◌*◌, ◌||◌, IsPermutation, min, nat_le}
-pub use Rattle.std.specs.Prelude.{Option, cond, set, is_some, ◌≤◌, All, IfSome, option_and_then, max, ◌+◌, not, ◌≢◌, ◌^◌, MatchBool, MatchOption, ◌&&◌, drop}
-pub use Rattle.std.specs.Prelude.{Ok}
-pub use Rattle.std.specs.declared.cmp.Ordering.{Ordering}
+pub use Rattle.std.specs.Prelude.{Option, cond, set, is_some, ◌≤◌, All, IfSome, max, ◌+◌, not, ◌≢◌, ◌^◌, MatchBool, MatchOption, ◌&&◌, drop}
+pub use Rattle.std.specs.Prelude.{Ok, map, nat_lt, ◌==◌}
+pub use Rattle.batcher.specs.Lists.{is_some_and}
 pub use Rattle.batcher.specs.Config.{Config}
-pub use Rattle.batcher.specs.Meaning.{Meaning}
 pub use Rattle.batcher.specs.Next.{pending_next, subject_next}
 pub use Rattle.batcher.specs.Reports.{subjects_contradict}
 pub use Rattle.batcher.specs.RoundContracts.{round_config}
@@ -47,7 +49,6 @@ pub use Rattle.batcher.specs.positions.Epoch.{Epoch}
 pub use Rattle.batcher.specs.positions.Participant.{Participant}
 pub use Rattle.batcher.specs.positions.Round.{Round}
 pub use Rattle.batcher.specs.positions.View.{View}
-pub use Rattle.batcher.specs.verifier.Batch.{Batch}
 pub use Rattle.batcher.specs.votes.Outcome.{Outcome}
 pub use Rattle.batcher_agreement.proofs.Voting.{voted_final_is_notarized}
 pub use Rattle.batcher_agreement.specs.Lives.{node_history, called, held_by, conduct_of, verified, VoterEvent, VoterHistory, written, acts_of, learned_by}
@@ -64,11 +65,10 @@ pub use Rattle.batcher_journal.specs.Ready.{JournalView, begun}
 pub use Rattle.batcher_journal.specs.Records.{Certified}
 pub use Rattle.batcher_journal.specs.Text.{Contents, fields_of}
 pub use Rattle.batcher_node.proofs.Lowest.{one_next}
-pub use Rattle.batcher_node.specs.Events.{started, cause_by, is_peer, vote_came, NodeEvent, NodeHistory, certificate_came, constructed, cause_in}
+pub use Rattle.batcher_node.specs.Events.{started, cause_by, is_peer, vote_came, NodeEvent, certificate_came, constructed, cause_in}
 pub use Rattle.batcher_node.specs.Events.{forgery_came, peer_in, view_finalized, view_history, window_after, vote_cast, view_entered}
 pub use Rattle.batcher_node.specs.Nodes.{NodeConfig, NodeView, SameNode, node_config, IsAtRest, cause_at, slot_at, IsNext, IsLedByAnother}
-pub use Rattle.batcher_node.specs.Represents.{NodeRepresents, ViewRepresents, ahead_answer, ahead_answer_of, is_to_be_tried}
-pub use Rattle.batcher_node.specs.Sending.{HoldsCertified}
+pub use Rattle.batcher_node.specs.Represents.{ViewRepresents, ahead_answer, ahead_answer_of, is_to_be_tried}
 pub use Rattle.batcher_node.specs.Verdicts.{LooksAtKindThere, LooksAtThere}
 pub use Rattle.batcher_node.specs.Windows.{is_ahead, is_of, numbered}
 pub use Rattle.batcher_node.specs.declared.answers.Cast.TheVariants.{ToSend, Known as KnownVote, Outside as OutsideVote}
@@ -78,14 +78,14 @@ pub use Rattle.batcher_node.specs.declared.answers.Ahead.{Ahead}
 pub use Rattle.batcher_node.specs.declared.answers.Ahead.TheVariants.{Certified as CertifiedAhead, Forged as ForgedAhead}
 pub use Rattle.batcher_node.specs.declared.answers.Receipt.{Receipt}
 pub use Rattle.batcher_node.specs.declared.answers.Receipt.TheVariants.{Answered, Dropped, Outside, Unknown}
-pub use Rattle.batcher_node.specs.declared.answers.Verdict.{Verdict}
-pub use Rattle.batcher_node.specs.declared.answers.Verdict.TheVariants.{Forged, Known, Recorded}
 pub use Rattle.batcher_node.specs.declared.slot.Slot.{Slot}
 pub use Rattle.batcher_node.specs.declared.window.Window.{Window}
 pub use Rattle.batcher_types.proofs.VoteLemmas.{same_proposal-true, same_round-refl, same_round-true, same_subject-refl}
 pub use Rattle.batcher_bytes.specs.Copies.{CopyView}
 pub use Rattle.batcher_validator.specs.Disks.{log_of}
 pub use Rattle.batcher_validator.specs.Ending.{IsPreferred, GivesOnAndOn, HasLessLeft, WaitsForVote, finals_left, is_final_after, others_left}
+pub use Rattle.batcher_validator.specs.Absence.{enters, entering, is_given_up, is_sign, is_sign_of, silence_of, with_sign}
+pub use Rattle.batcher_validator.specs.Histories.{gave_up}
 pub use Rattle.batcher_validator.specs.Histories.{began, only_took, HasBlocked, ValidatorHistory, gave, chose, expired, later_of, conduct_in, voter_history}
 pub use Rattle.batcher_validator.specs.Histories.{window_by, calls_in, HasHad, HasHanded, did, HasForwarded, again, forward_with, to_forward, HadVoted}
 pub use Rattle.batcher_validator.specs.Histories.{HasAnnouncedFrom, HasAskedFrom, HasRecast, HasSent, IsVerifying, answered, ValidatorEvent, only_did, took}
@@ -100,7 +100,7 @@ pub use Rattle.batcher_validator.specs.Returning.{agains, StaysFinal}
 pub use Rattle.batcher_validator.specs.Recalling.{Recalls, IsAtPlace}
 pub use Rattle.batcher_validator.specs.Running.{HasBegun, HasCertificate, IsRunning, ValidatorView, is_over_for, AreBlocked, blocks_sender, IntentView}
 pub use Rattle.batcher_validator.specs.Running.{ForEachRun, Gives, GivenView, RunStays, WhyNotFinal, tally_from, left_of, AreKept, RunMeets, is_before_view}
-pub use Rattle.batcher_validator.specs.Running.{AreFirstVotes, AreFirstVotesBut, HasConstructed, tallied, IsIntent, AreBytesOf}
+pub use Rattle.batcher_validator.specs.Running.{AreFirstVotes, AreFirstVotesBut, HasConstructed, tallied, IsIntent, AreBytesOf, AreSilent, RunEnters}
 pub use Rattle.batcher_validator.specs.Running.{RunCasts, RunMayWrite, RunWrites, RunTakes}
 pub use Rattle.batcher_validator.specs.Shelves.{PutsBehind, ShelfView, last_of}
 pub use Rattle.batcher_validator.specs.Shelves.{AreShelved, IsFinalAt, is_from, HaveNoFinal, IsAt, kind_and_round, Shelves, IsLookedAt, ShelvesOne}
@@ -121,7 +121,7 @@ pub use Rattle.batcher_voter.specs.Knowledge.{KnowsOf}
 pub use Rattle.batcher_voter.specs.Refusals.{RestsOnLearned, IsAnotherNotarized, IsRefused}
 pub use Rattle.batcher_voter.specs.Remembering.{Remembers}
 pub use Rattle.batcher_voter.specs.Reopening.{IsFinalView, IsTakenIn, StaysKnown}
-pub use Rattle.batcher_voter.specs.Voting.{HasStarted, was_recorded, BeginWithOneView, ForEachLife, IsFinalizable, Permits, IsVoting, VoterStays, IsNextView}
+pub use Rattle.batcher_voter.specs.Voting.{HasStarted, BeginWithOneView, ForEachLife, IsFinalizable, Permits, IsVoting, VoterStays, IsNextView}
 pub use Rattle.batcher_voter.specs.Voting.{VoterMeets, Casts, IsWritten, MayWrite, WritesAndCalls}
 pub use Rattle.batcher_voter.specs.declared.answers.FinalizeFault.TheVariants.{NotOfEpoch, Passed}
 pub use Rattle.batcher_voter.specs.declared.answers.Permission.{Permission}

@@ -41,6 +41,8 @@ pub data ValidatorEvent (D K G C : Type 0) : Type 0 where
   chose : Proposal D → ValidatorEvent D K G C
   -- the time of this view is over
   expired : ℕ → ValidatorEvent D K G C
+  -- this view was given up as it was entered, for its leader
+  gave_up : ℕ → ValidatorEvent D K G C
   -- the signature of this, which was to be signed, isn't good
   refused : Subject D → ValidatorEvent D K G C
   -- what was sent may be lost, so a part of it is to be sent again
@@ -220,10 +222,11 @@ module _ {D K G C : Type 0} where
   unsigned_in (refused s ∷ past) = with_refused (unsigned_in past) s
   unsigned_in (event ∷ past) = unsigned_in past
 
-  -- the highest view whose time is over, or 0
+  -- the highest view whose time is over, or that was given up, or 0
   abbrev pub expired_in : ValidatorHistory D K G C → ℕ
   expired_in [] = 0
   expired_in (expired view ∷ past) = max (expired_in past) view
+  expired_in (gave_up view ∷ past) = max (expired_in past) view
   expired_in (event ∷ past) = expired_in past
 
   -- of the proposals that are its own, or valid, the one of the highest view

@@ -2,6 +2,7 @@ pub mod Unsigned
 pub mod Resending
 pub mod Histories
 pub mod Returning
+pub mod Absence
 pub mod Tasks
 pub mod Queues
 pub mod Decisions

@@ -1,7 +1,7 @@
 -- A validator: a voter, with what it gave to be done.
 use Rattle.std.specs.Prelude.{◌≡◌, ◌≢◌, ◌<◌, ◌≤◌, ◌⊎◌, ⊤, ℕ, Bool, true, false, List, [], ◌∷◌, ◌++◌}
 use Rattle.std.specs.Prelude.{◌||◌, Contains, MatchBool, Option, Some, None, Ok, is_some, nat_lt}
-use Rattle.std.specs.Prelude.{not, take}
+use Rattle.std.specs.Prelude.{◌-◌, ◌^◌, length, min, not, take}
 use Rattle.std.specs.List.{count_by, slice_get}
 use Rattle.batcher.specs.Verifiers.{certifies_itself}
 use Rattle.batcher.specs.Votes.{kind_certified, round_in, subject_certified, subject_of}
@@ -37,12 +37,13 @@ use Rattle.batcher_node.specs.declared.answers.Cast.{Cast}
 use Rattle.batcher_node.specs.declared.answers.Cast.TheVariants.{ToSend, Known as KnownVote}
 use Rattle.batcher_node.specs.declared.answers.Cast.TheVariants.{Outside as OutsideVote}
 use Rattle.batcher_validator.specs.Queues.{AreFirst, HasKey}
+use Rattle.batcher_validator.specs.Absence.{entering, silence_of}
 use Rattle.batcher_validator.specs.Decisions.{AreDecided}
 use Rattle.batcher_validator.specs.Shelves.{IsLookedAt, ShelfView, kind_and_round}
 use Rattle.batcher_validator.specs.Histories.{HadVoted, HasAnnouncedFrom, HasAskedFrom, HasBlocked}
 use Rattle.batcher_validator.specs.Histories.{HasHanded, HasRecast, HasSent, HasSentOnce}
 use Rattle.batcher_validator.specs.Histories.{IsVerifying, ValidatorEvent, ValidatorHistory}
-use Rattle.batcher_validator.specs.Histories.{answered, began}
+use Rattle.batcher_validator.specs.Histories.{answered, began, calls_in}
 use Rattle.batcher_validator.specs.Histories.{chosen_in, conduct_in, did, expired_in, gave}
 use Rattle.batcher_validator.specs.Histories.{last_to_sign, me_in, only_did, only_took, posed_in}
 use Rattle.batcher_validator.specs.Histories.{resent_from, to_forward, took, turn_in, unsigned_in}
@@ -70,7 +71,7 @@ pub record IntentView (D : Type 0) : Type 0 where
   pub signing : Option (Subject D)
   -- which signatures were refused since then
   pub unsigned : Unsigned
-  -- the highest view whose time is over, or 0
+  -- the highest view whose time is over, or that was given up, or 0
   pub expired : ℕ
   -- the proposal of the highest view that is its own, or valid
   pub chosen : Option (Proposal D)
@@ -98,6 +99,8 @@ pub record GivenView (D : Type 0) : Type 0 where
   pub intent : IntentView D
   -- views in which it has voted to finalize or to nullify, as far as is noted
   pub decided : Decided
+  -- of each participant how many views were entered since something came of it, 2^64 - 1 at most
+  pub presence : List ℕ
 
 -- With scheme S, signatures G, digests D, log L and certificates C.
 pub record ValidatorView (S G D L C : Type 0) : Type 0 where
@@ -134,6 +137,13 @@ pub record AreBlocked (WasBlocked : ℕ → Type 0) (blocked : List Bool) : Type
 pub record AreAsked (WasAskedFrom : ℕ → Type 0) (asked : ℕ) : Type 0 where
   pub were_asked : (view : ℕ) → 0 < view → view ≤ asked → WasAskedFrom view
   pub no_others : (view : ℕ) → WasAskedFrom view → view ≤ asked
+
+-- Of each participant is noted how many views were entered since something came of it.
+abbrev pub AreSilent : {D K G C : Type 0} → NodeConfig D K G C → ValidatorHistory D K G C → List ℕ
+    → Type 0
+AreSilent x past silences =
+    (i : ℕ) → i < length x.meaning.participants
+    → slice_get silences i ≡ Some (min (silence_of x i (calls_in past)) (2 ^ 64 - 1))
 
 -- It means to vote for what it was answered.
 pub record IsIntent {D K G C : Type 0} (past : ValidatorHistory D K G C) (intent : IntentView D)
@@ -260,6 +270,7 @@ module _ {S D K G C L : Type 0} (x : NodeConfig D K G C) where
     pub forwards : to_forward past ≡ validator.given.forwarding
     pub intends : IsIntent past validator.given.intent
     pub decides : AreDecided (conduct_in earlier past) x.epoch validator.given.decided
+    pub hears : AreSilent x past validator.given.presence
 
   -- A validator that was made from its journal took in what that has, gave nothing, and asked its
   -- node nothing. It votes as whom the journal says.
@@ -287,6 +298,12 @@ module _ {S D K G C L : Type 0} (x : NodeConfig D K G C) where
       → Type 0
   RunMeets old new event =
       ForEachRun old (λ past earlier. IsRunning (event ∷ past) earlier new)
+
+  -- It enters a view with its leader, and gives it up where that is blocked, or absent.
+  abbrev pub RunEnters : ℕ → Participant → ValidatorView S G D L C → ValidatorView S G D L C
+      → Type 0
+  RunEnters view leader old new =
+      ForEachRun old (λ past earlier. IsRunning (entering x past view leader) earlier new)
 
   -- Its voter verifies and learns a certificate, and it is kept.
   abbrev pub RunTakes : Certificate C D → ValidatorView S G D L C → ValidatorView S G D L C → Type 0

@@ -98,7 +98,8 @@ module _ {D K G C : Type 0} (x : NodeConfig D K G C) where
       → (next ≤ (window_by past).current) ⊎ HasAskedFrom past next
 
   -- A proposal of a view is to be made, or to be judged: it would be the first of the current view,
-  -- which is above the final one and whose time isn't over, and no later view is to be entered.
+  -- which is above the final one, whose time isn't over, and which wasn't given up as it was
+  -- entered, and no later view is to be entered.
   pub record IsOpen (past : ValidatorHistory D K G C) (view : ℕ) : Type 0 where
     pub is_current : view ≡ (window_by past).current
     pub above : (window_by past).finalized < view
@@ -121,7 +122,8 @@ module _ {D K G C : Type 0} (x : NodeConfig D K G C) where
     MaySign past s = MayVote past s × (is_unsigned (unsigned_in past) s ≡ false)
 
     -- What it votes for, where it may: a proposal that is its own, or valid, the end of a view
-    -- whose time is over, and the finalization of whatever is notarized.
+    -- whose time is over, or that was given up as it was entered, and the finalization of whatever
+    -- is notarized.
     abbrev pub IsWanted : ValidatorHistory D K G C → Subject D → Type 0
     IsWanted past (Notarize p) = chosen_in past ≡ Some p
     IsWanted past (Nullify number) =

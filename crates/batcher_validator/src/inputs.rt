@@ -1,17 +1,23 @@
 //! What comes to a validator: messages of its peers, and its own votes.
 
 ghost use Rattle.std.specs.Prelude.{◌≡◌, ◌≢◌, ◌<◌, ◌≤◌, ◌⊎◌, ◌∷◌, Err, IfOk, IfSome, None, Ok};
-ghost use Rattle.std.specs.Prelude.{MatchBool, OnErr, OnOk, false, length, option_and_then, true};
+ghost use Rattle.std.specs.Prelude.{◌+◌, ◌-◌, ◌*◌, ◌^◌, MatchBool, OnErr, OnOk, cond, false};
+ghost use Rattle.std.specs.Prelude.{is_some, length, map, max, min, nat_le, option_and_then, true};
+ghost use Rattle.std.specs.List.{slice_get};
+ghost use Rattle.std.specs.Option.{option_map_or};
 ghost use Rattle.batcher.specs.Verifiers.{certifies_itself};
 ghost use Rattle.batcher.specs.Votes.{round_in, subject_certified, subject_of};
 ghost use Rattle.batcher.specs.calls.Call.TheVariants.{Network as NetworkCall};
 ghost use Rattle.batcher_agreement.specs.Lives.{called, verified};
 ghost use Rattle.batcher_node.specs.Events.{certificate_came, constructed, view_entered, vote_came};
-ghost use Rattle.batcher_node.specs.Nodes.{IsAtRest, IsLedByAnother, IsNext, SameNode, slot_at};
+ghost use Rattle.batcher_node.specs.Nodes.{IsAtRest, IsLedByAnother, IsNext, SameNode, cause_at};
+ghost use Rattle.batcher_node.specs.Nodes.{slot_at};
 ghost use Rattle.batcher_node.specs.declared.answers.EnterFault.{EnterFault};
-ghost use Rattle.batcher_node.specs.Events.{forgery_came};
+ghost use Rattle.batcher_node.specs.Events.{forgery_came, peer_in};
 ghost use Rattle.batcher_node.specs.Represents.{IsHeard, MayNeedIn, ahead_answer};
-ghost use Rattle.batcher_validator.specs.Running.{HasConstructed, RunMeets, RunStays, RunTakes};
+ghost use Rattle.batcher_validator.specs.Absence.{is_given_up, is_sign, with_sign};
+ghost use Rattle.batcher_validator.specs.Running.{ForEachRun, HasConstructed, RunEnters, RunMeets};
+ghost use Rattle.batcher_validator.specs.Running.{RunStays, RunTakes};
 ghost use Rattle.batcher_validator.specs.Running.{CatchesUp, blocks_sender};
 ghost use Rattle.batcher_validator.specs.Shelves.{Shelves};
 ghost use Rattle.batcher_validator.specs.Histories.{answered, did};
@@ -23,6 +29,7 @@ ghost use Rattle.batcher_voter.specs.Voting.{VoterStays};
 ghost use Rattle.batcher_voter.specs.Voting.{was_recorded};
 ghost use Rattle.batcher_bytes.specs.Copies.{KeepsCopy};
 
+use crate::polling::cause_of;
 use crate::validator::Validator;
 use batcher::messages::{Certificate, Digest, Identical, Vote};
 use batcher::positions::{Participant, Round, View};
@@ -60,8 +67,10 @@ where
         ensures copied { KeepsCopy L.is_copied_as self.old.voter.journal.log
             self.new.voter.journal.log }
     {
+        let who = self.sender(&peer);
         match self.call_vote(peer, vote) {
             Ok(receipt) => {
+                self.note_sign(who, is_sign(&receipt));
                 if blocks_sender(&receipt) {
                     self.stir();
                     return Ok(receipt);
@@ -70,6 +79,25 @@ where
             }
             Err(fault) => Err(fault),
         }
+    }
+
+    // The participant with the key.
+    fn sender(&self, peer: &S::PublicKey) -> Option<Participant>
+        ensures { result
+            ≡ peer_in (⟦<S as NodeConfigs<D>>⟧.of self.now.voter.node) peer.now }
+    {
+        self.scheme.participants().index(peer)
+    }
+
+    // A message came of a participant, and whether it is a sign of life.
+    fn note_sign(&mut self, sender: Option<Participant>, is_sign: bool)
+        ensures given { self.new.given ≡ record self.old.given {
+          presence = with_sign is_sign sender self.old.given.presence;
+        } }
+        ensures voter { self.new.voter ≡ self.old.voter }
+        ensures shelf { self.new.shelf ≡ self.old.shelf }
+    {
+        self.given.presence.note(sender, is_sign);
     }
 
     // Somebody may be to be blocked.
@@ -159,8 +187,11 @@ where
     {
         senders_of_votes_to_send_are_never_blocked::<S, D>();
         self.begins();
+        let who = self.sender(&peer);
         match self.call_certificate(peer, &certificate) {
             Ok(receipt) => {
+                let heard = is_sign(&receipt);
+                self.note_sign(who, heard);
                 if is_recorded(&receipt) {
                     self.shelve(certificate);
                     return Ok(receipt);
@@ -527,10 +558,12 @@ where
         self.voter.try_construct(rng, waiting)
     }
 
-    /// Enters a view with its leader, as the voter does.
+    /// Enters a view with its leader, as the voter does. Where that is another participant, and is
+    /// blocked or absent, the view is given up at once, as where its time is over: `is_given_up`
+    /// says when. Then poll.
     pub fn enter(&mut self, view: View, leader: Participant) -> Result<(), EnterFault>
-        ensures meets { OnOk result (RunMeets (⟦<S as NodeConfigs<D>>⟧.of self.old.voter.node)
-            self.old self.new (did (called (view_entered view.0 leader)))) }
+        ensures meets { OnOk result (RunEnters (⟦<S as NodeConfigs<D>>⟧.of self.old.voter.node)
+            view.0 leader self.old self.new) }
         ensures passed { view.0 < self.old.voter.node.window.finalized
             → result ≡ Err EnterFault.Passed }
         ensures not_passed { result ≡ Err EnterFault.Passed
@@ -544,12 +577,69 @@ where
         ensures copied { KeepsCopy L.is_copied_as self.old.voter.journal.log
             self.new.voter.journal.log }
     {
+        let is_over = self.gives_up(leader);
         match self.call_enter(view, leader) {
             Ok(()) => {
+                self.note_entered(view, is_over);
                 self.settle();
                 Ok(())
             }
             Err(fault) => Err(fault),
+        }
+    }
+
+    // Whether a leader's views are given up as they are entered.
+    fn gives_up(&self, leader: Participant) -> bool
+        ensures { ForEachRun (⟦<S as NodeConfigs<D>>⟧.of self.now.voter.node) self.now
+            (λ past earlier. result
+            ≡ is_given_up (⟦<S as NodeConfigs<D>>⟧.of self.now.voter.node) past leader) }
+    {
+        if leader.0 as usize >= self.participants() {
+            return false;
+        }
+        if leader.0 == self.me().0 {
+            return false;
+        }
+        if self.is_blocked(leader) {
+            return true;
+        }
+        self.is_absent(leader)
+    }
+
+    // Whether a participant is blocked.
+    fn is_blocked(&self, who: Participant) -> bool
+        ensures { result ≡ is_some (cause_at self.now.voter.node.blocked who.0) }
+    {
+        cause_of(self.voter.node().blocked(), who.0 as usize).is_some()
+    }
+
+    // Whether at least twice as many views as there are participants were entered since something
+    // came of one.
+    fn is_absent(&self, who: Participant) -> bool
+        ensures absent { result ≡ option_map_or (nat_le
+            (length (S.meaning self.now.voter.node.scheme).participants * 2))
+            (slice_get self.now.given.presence who.0) false }
+        ensures few { length (S.meaning self.now.voter.node.scheme).participants < 2 ^ 32 }
+    {
+        let views = self.given.blocked.len() as u64 * 2;
+        self.given.presence.is_silent(who, views)
+    }
+
+    // A view is entered, and whether it is given up.
+    fn note_entered(&mut self, view: View, is_over: bool)
+        ensures given { self.new.given ≡ record self.old.given {
+          presence = map (λ silence. min (silence + 1) (2 ^ 64 - 1)) self.old.given.presence;
+          intent = record self.old.given.intent {
+            expired = cond is_over (max self.old.given.intent.expired view.0)
+                self.old.given.intent.expired;
+          };
+        } }
+        ensures voter { self.new.voter ≡ self.old.voter }
+        ensures shelf { self.new.shelf ≡ self.old.shelf }
+    {
+        self.given.presence.enter();
+        if is_over {
+            self.given.intent.expired = self.given.intent.expired.max(view.0);
         }
     }
 
@@ -575,6 +665,18 @@ where
             self.new.voter.journal.log }
     {
         self.voter.enter(view, leader)
+    }
+}
+
+// Whether a message is a sign of life of who sent it.
+fn is_sign<A: Drop>(receipt: &Receipt<A>) -> bool
+    ensures { result ≡ is_sign receipt.now }
+{
+    match receipt {
+        Receipt::Answered(_) => true,
+        Receipt::Outside => true,
+        Receipt::Dropped => false,
+        Receipt::Unknown => false,
     }
 }
 

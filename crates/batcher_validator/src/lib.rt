@@ -12,6 +12,7 @@ mod inputs;
 mod looping;
 mod polling;
 mod posing;
+mod presence;
 mod recalling;
 mod resending;
 mod shelf;

@@ -12,6 +12,10 @@ ghost use Rattle.batcher_validator.specs.Disks.{with_write_done, with_write_give
 ghost use Rattle.batcher_validator.specs.Ending.{HasLessLeft};
 ghost use Rattle.batcher_validator.specs.Histories.{conduct_in};
 ghost use Rattle.batcher_voter.specs.Remembering.{IsLeft};
+ghost use Rattle.batcher_journal.specs.Text.{OwnerFields};
+ghost use Rattle.batcher_validator.specs.Unstarted.{HasNoVoter};
+ghost use Rattle.batcher_voter.specs.declared.answers.StartFault.{StartFault as TheStartFault};
+ghost use Rattle.batcher_voter.specs.declared.answers.StartFault.TheVariants.{OutOfMemory as NoMemory};
 ghost use Rattle.batcher_validator.specs.Running.{ForEachRun, Gives, IsReadyTask, RunStays};
 ghost use Rattle.batcher_validator.specs.Shelves.{IsToAnnounce};
 ghost use Rattle.batcher_validator.specs.Tasks.{IsGivenMeanwhile, NothingIsDue};
@@ -117,6 +121,16 @@ impl<T: Truth> Loop<T> {
             (log_of self.now.validator)) }
     {
         self.validator.leaves_what_was_done();
+    }
+
+    /// Does nothing. From what is taken to be on the disk, once it is there, a start is refused for
+    /// memory alone, and so it is from what it was when a write was given.
+    pub fn leaves_what_starts(&self)
+        ensures { self.now.validator.voter.journal.is_open ≡ true
+            → (owner : OwnerFields) (fault : TheStartFault)
+            → HasNoVoter owner (log_of self.now.validator) fault → fault ≡ NoMemory }
+    {
+        self.validator.leaves_what_is_readable();
     }
 
     // Whether something is to be written, and no write is under way.

@@ -2,7 +2,7 @@
 
 ghost use Rattle.std.specs.Prelude.{◌≡◌, ◌≤◌, ◌<◌, ◌+◌, ◌*◌, ◌⊎◌, ◌^◌, ◌++◌, [], Contains, Err};
 ghost use Rattle.std.specs.Prelude.{IfOk, IfNone, IfSome, MatchBool, None, Ok, OnErr, Some, length};
-ghost use Rattle.std.specs.Prelude.{set, true, false, ℕ};
+ghost use Rattle.std.specs.Prelude.{set, true, false, List, ℕ};
 ghost use Rattle.std.specs.List.{slice_get};
 ghost use Rattle.batcher_bytes.specs.Messages.{certificate_format, vote_format};
 ghost use Rattle.batcher_journal.specs.Answers.{MayBeWrittenBehind};
@@ -28,6 +28,8 @@ ghost use Rattle.batcher_validator.specs.Tasks.{NothingIsDueMeanwhile};
 ghost use Rattle.batcher_validator.specs.Disks.{IsTooLongToAnnounce};
 ghost use Rattle.batcher_validator.specs.Disks.{with_write_done, with_write_given};
 ghost use Rattle.batcher_validator.specs.Unsigned.{nothing_unsigned};
+ghost use Rattle.batcher.specs.Verifiers.{certifies_itself};
+ghost use Rattle.batcher_voter.specs.Unstarted.{LeavesReadable};
 ghost use Rattle.batcher_voter.specs.Voting.{BeginWithOneView, ForEachLife, IsNextView};
 ghost use Rattle.batcher_bytes.specs.Copies.{KeepsCopy};
 
@@ -135,6 +137,18 @@ where
             (vote_format S.Signature.format D.format) L.is_honest L.may_leave self.now self.now }
     {
         self.voter.leaves_what_was_done();
+    }
+
+    /// Does nothing. What a crash leaves is readable, so that a start from it is refused for memory
+    /// alone (`what_is_readable_starts`).
+    pub fn leaves_what_is_readable(&self)
+        ensures { (left : List ℕ) → self.now.voter.journal.is_open ≡ true
+            → L.is_honest self.now.voter.journal.log → L.may_leave self.now.voter.journal.log left
+            → LeavesReadable (certificate_format S.Certificate.format D.format)
+            (vote_format S.Signature.format D.format)
+            (certifies_itself (S.meaning self.now.voter.node.scheme)) left }
+    {
+        self.voter.leaves_what_is_readable();
     }
 
     /// A part of what was sent is given again, since it may be lost: the finalization of the final
@@ -326,7 +340,7 @@ where
 }
 
 // Why the participant of an index is blocked, if it is.
-fn cause_of(causes: &[Option<Cause>], i: usize) -> Option<Cause>
+pub(crate) fn cause_of(causes: &[Option<Cause>], i: usize) -> Option<Cause>
     ensures { result ≡ cause_at causes.now i }
 {
     match causes.get(i) {

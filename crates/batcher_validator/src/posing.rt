@@ -432,7 +432,7 @@ where
         self.voter.node().window().finalized
     }
 
-    // The round whose time is over, if it may be given up.
+    // The round whose time is over, or that was given up, if a vote to nullify it may be cast.
     fn next_to_nullify(&self) -> Option<Round>
         requires { self.now.voter.journal.is_open ≡ true }
         ensures some { IfSome result (λ number.
@@ -638,7 +638,7 @@ where
         }
     }
 
-    fn me(&self) -> Participant
+    pub(crate) fn me(&self) -> Participant
         ensures { result ≡ self.now.given.intent.me }
     {
         self.given.intent.me

@@ -11,9 +11,10 @@ ghost use Rattle.batcher_validator.specs.Shelves.{kind_and_round};
 ghost use Rattle.batcher_validator.specs.Unsigned.{nothing_unsigned};
 ghost use Rattle.batcher_voter.specs.Remembering.{Remembers};
 ghost use Rattle.batcher_voter.specs.Reopening.{IsFinalView, IsTakenIn};
-ghost use Rattle.batcher_voter.specs.Unstarted.{WhyNotStarted};
+ghost use Rattle.batcher_voter.specs.Unstarted.{WhyNotStarted, all_in};
 
 use crate::decided::Decided;
+use crate::presence::Presence;
 use crate::resending::Resending;
 use crate::shelf::Shelf;
 use crate::tally::Tally;
@@ -38,7 +39,7 @@ pub(crate) struct Intent<D: Digest> {
     pub(crate) signing: Option<Subject<D>>,
     // Which signatures were refused since then.
     pub(crate) unsigned: Unsigned,
-    // The highest view whose time is over, or 0.
+    // The highest view whose time is over, or that was given up, or 0.
     pub(crate) expired: u64,
     // The proposal of the highest view that is its own, or valid.
     pub(crate) chosen: Option<Proposal<D>>,
@@ -82,6 +83,7 @@ pub(crate) struct Given<D: Digest> {
     pub(crate) intent: Intent<D>,
     // Views in which it has voted to finalize or to nullify, as far as is noted.
     pub(crate) decided: Decided,
+    pub(crate) presence: Presence,
 }
 
 impl<D: Digest> Model for Given<D> {
@@ -100,6 +102,7 @@ impl<D: Digest> Model for Given<D> {
       forwarding = g.forwarding;
       intent = g.intent;
       decided = g.decided;
+      presence = g.presence;
     } };
 }
 
@@ -113,6 +116,8 @@ where
     pub(crate) voter: Voter<S, D, L>,
     pub(crate) given: Given<D>,
     pub(crate) shelf: Shelf<S::Certificate, D>,
+    // That of its voter, which says who a peer is.
+    pub(crate) scheme: Rc<S>,
 }
 
 impl<S: Scheme<D>, D: Digest + Codec, L: Log> Model for Validator<S, D, L>
@@ -129,7 +134,7 @@ where
 
     ghost invariant = { λ v. (length v.given.blocked
         ≡ length (S.meaning v.voter.node.scheme).participants)
-        × (length v.given.blocked < 2 ^ 32) };
+        × ((length v.given.blocked < 2 ^ 32) × (v.scheme.value ≡ v.voter.node.scheme)) };
 }
 
 impl<S: Scheme<D>, D: Digest + Codec, L: Log> Validator<S, D, L>
@@ -168,7 +173,7 @@ where
         ensures journal { IfOk result (λ it. it.voter.journal ≡ journal) }
         ensures refused { IfErr result (λ it. it.journal ≡ journal) }
         ensures why { IfErr result (λ it. WhyNotStarted
-            (certificate_format S.Certificate.format D.format) journal.contents
+            (certificate_format S.Certificate.format D.format) (all_in journal)
             (certifies_itself (S.meaning scheme.value)) it.fault) }
     {
         let me = journal.participant();
@@ -183,6 +188,24 @@ where
                 });
             }
         }
+        let presence = match Presence::new(alloc, scheme.participants().len()) {
+            Ok(presence) => presence,
+            Err(_) => {
+                return Err(NotStarted {
+                    fault: StartFault::OutOfMemory,
+                    journal,
+                });
+            }
+        };
+        let same = match Rc::clone(&scheme) {
+            Ok(same) => same,
+            Err(_) => {
+                return Err(NotStarted {
+                    fault: StartFault::OutOfMemory,
+                    journal,
+                });
+            }
+        };
         let mut validator = match Voter::start(
             alloc,
             scheme,
@@ -190,7 +213,7 @@ where
             track_historical_votes,
             journal,
         ) {
-            Ok(voter) => Validator::of(alloc, voter, blocked, me, begun),
+            Ok(voter) => Validator::of(alloc, same, voter, blocked, presence, me, begun),
             Err(it) => return Err(it),
         };
         match validator.recall(alloc) {
@@ -205,14 +228,17 @@ where
     // The validator of a voter, which gave nothing.
     fn of(
         alloc: Global,
+        scheme: Rc<S>,
         voter: Voter<S, D, L>,
         blocked: Vec<bool>,
+        presence: Presence,
         me: Participant,
         begun: usize,
     ) -> Self
         requires each { length blocked.items
             ≡ length (S.meaning voter.node.scheme).participants }
         requires few { length blocked.items < 2 ^ 32 }
+        requires same { scheme.value ≡ voter.node.scheme }
         ensures voter { result.voter ≡ voter }
         ensures given { result.given ≡ record {
           blocked = blocked.items;
@@ -232,6 +258,7 @@ where
             posed = 0;
           };
           decided = record { first = 0; end = 0 };
+          presence = presence;
         } }
         ensures empty { result.shelf.certificates ≡ [] }
         ensures handed { result.shelf.handed ≡ 0 }
@@ -261,8 +288,10 @@ where
                     posed: 0,
                 },
                 decided: Decided { first: 0, end: 0 },
+                presence,
             },
             shelf: Shelf::new(alloc),
+            scheme,
         }
     }
 

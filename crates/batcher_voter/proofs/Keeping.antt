@@ -22,7 +22,7 @@ use Rattle.batcher_journal.specs.declared.journal.WriteFault.{WriteFault}
 use Rattle.batcher_journal.specs.declared.journal.WriteFault.TheVariants.{Closed as ShutToWrite, Full as NoRoomToWrite, NotFree}
 use Rattle.batcher_journal.specs.declared.journal.WriteFault.TheVariants.{OutOfMemory as NoMemoryToWrite}
 
-as_pair :
+pub as_pair :
     (it : Certified) (round : Round) (bytes : List ℕ) → it.0 ≡ round → it.1 ≡ bytes
     → it ≡ (round, bytes)
 as_pair it round bytes first second =
@@ -485,7 +485,7 @@ module _ {C G D L : Type 0} (format : Format (Certificate C D)) (old new : Journ
     same_keeps format old new knowledge waits same,
   )
 
-  the_same : new ≡ old → StaysKeeping
+  pub the_same : new ≡ old → StaysKeeping
   the_same e = (
     λ is_open. (
       subst (λ (j : JournalView G D L). j.is_open ≡ true) e is_open,
@@ -504,13 +504,16 @@ module _ {C G D L : Type 0} (format : Format (Certificate C D)) (old new : Journ
       wrong : new.is_open ≡ true → ⊥
       wrong is_open = differ (sym is_open ∙ shut)
 
+  pub one_more_stays : (it : Certified) → Keeps old new it → StaysKeeping
+  one_more_stays it keeps = (
+    λ is_open. (sym keeps.is_open ∙ is_open, ap (λ (c : Contents G D). c.floor) keeps.contents),
+    one_more_keeps format old new it keeps knowledge waits,
+  )
+
   pub after_keep :
       {U E : Type 0} (result : Result U E) (it : Certified) → OnOk result (Keeps old new it)
       → OnErr result (new ≡ old) → StaysKeeping
-  after_keep (Ok u) it ok err = (
-    λ is_open. (sym ok.is_open ∙ is_open, ap (λ (c : Contents G D). c.floor) ok.contents),
-    one_more_keeps format old new it ok knowledge waits,
-  )
+  after_keep (Ok u) it ok err = one_more_stays it ok
   after_keep (Err e) it ok err = the_same err
 
   pub after_write :

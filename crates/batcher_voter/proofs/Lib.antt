@@ -11,6 +11,8 @@ mod Calling
 pub mod Keeping
 mod Waiting
 mod Verifying
+pub mod Certifying
+pub mod Readable
 mod Given
 mod Finalizing
 mod Beginning

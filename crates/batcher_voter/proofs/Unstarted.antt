@@ -13,7 +13,7 @@ some_bytes (b ∷ bytes) not none = absurd cc
 
 module _ {C D : Type 0} (format : Format (Certificate C D)) where
   -- what bytes decode to is one
-  one_decoded : (bytes : List ℕ) (c d : Certificate C D) → whole (versioned format) bytes ≡ Ok c
+  pub one_decoded : (bytes : List ℕ) (c d : Certificate C D) → whole (versioned format) bytes ≡ Ok c
       → whole (versioned format) bytes ≡ Ok d → c ≡ d
   one_decoded bytes c d is also = cc
 
@@ -21,7 +21,7 @@ module _ {C D : Type 0} (format : Format (Certificate C D)) where
   true_false b is not = absurd cc
 
   -- and there are some
-  some_decoded : (bytes : List ℕ) (c : Certificate C D) → whole (versioned format) bytes ≡ Ok c
+  pub some_decoded : (bytes : List ℕ) (c : Certificate C D) → whole (versioned format) bytes ≡ Ok c
       → bytes ≢ []
   some_decoded bytes c is none =
       let wrong : whole (versioned format) [] ≡ Ok c =

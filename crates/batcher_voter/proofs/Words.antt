@@ -1,14 +1,16 @@
 -- What proofs of this crate use of definitions, and of lemmas from below it.
 pub use Rattle.std.proofs.Common.{inl, inr, refl, subst, ◌∙◌, ap, sym, eq-eqb, arith, ⊎_elim, append-nil, append_assoc, eqb, eqb-true, rules}
 pub use Rattle.std.proofs.lemmas.Bool.{cases_lt, le-ltb, leb-true}
-pub use Rattle.std.proofs.lemmas.List.Elements.{All-contains, All-contains_itself, All-filter, Contains-append_cases, filter_passes, Contains-append_right}
+pub use Rattle.std.proofs.lemmas.List.Elements.{recursion_from_All, All-contains, All-contains_itself, All-filter, Contains-append_cases}
+pub use Rattle.std.proofs.lemmas.List.Elements.{filter_passes, Contains-append_right}
 pub use Rattle.std.proofs.lemmas.List.Elements.{Contains-append_left}
 pub use Rattle.std.proofs.lemmas.Map.Made.{filter_same_pairs}
 pub use Rattle.std.proofs.lemmas.Option.{same_Some}
 pub use Rattle.std.specs.List.{filter}
 pub use Rattle.std.specs.Prelude.{◌≡◌, ◌++◌, [], ◌∷◌, ◌⊎◌, true, ℕ, Bool, Option, Some, None, IfSome, OnErr, MatchOption, option_and_then, ◌&&◌, false, not}
 pub use Rattle.std.specs.Prelude.{List}
-pub use Rattle.std.specs.Prelude.{Contains, ◌+◌, ◌≤◌, zero, suc, cond, length, All, Err, IfOk, Ok, Result, ◌<◌, ◌≢◌, MatchBool, is_some, slice_index_or, nat_le}
+pub use Rattle.std.specs.Prelude.{Contains, ◌+◌, ◌≤◌, zero, suc, cond, length, All, Err, IfOk, Ok, Result, ◌<◌, ◌≢◌, MatchBool, is_some}
+pub use Rattle.std.specs.Prelude.{slice_index_or, nat_le}
 pub use Rattle.std.specs.declared.cmp.Ordering.{Ordering}
 pub use Rattle.batcher.specs.AnswerFacts.{usable_votes}
 pub use Rattle.batcher.specs.Answers.{IsPossible}
@@ -30,6 +32,7 @@ pub use Rattle.batcher.specs.calls.Call.TheVariants.{Forward as ForwardCall, Mis
 pub use Rattle.batcher.specs.messages.Certificate.{Certificate}
 pub use Rattle.batcher.specs.messages.Certificate.TheVariants.{Notarization as NotarizationCertificate, Nullification as NullificationCertificate}
 pub use Rattle.batcher.specs.messages.Certificate.TheVariants.{Finalization as FinalizationCertificate}
+pub use Rattle.batcher.specs.messages.Kind.{Kind}
 pub use Rattle.batcher.specs.messages.Kind.TheVariants.{Finalization}
 pub use Rattle.batcher.specs.messages.Proposal.{Proposal}
 pub use Rattle.batcher.specs.messages.Subject.{Subject}
@@ -40,7 +43,7 @@ pub use Rattle.batcher.specs.positions.Participant.{Participant}
 pub use Rattle.batcher.specs.positions.Round.{Round}
 pub use Rattle.batcher.specs.verifier.Batch.{Batch}
 pub use Rattle.batcher_agreement.proofs.Voting.{not_both}
-pub use Rattle.batcher_agreement.specs.Lives.{VoterHistory, called, conduct_of, verified, VoterEvent, acts_of, learned_by, written}
+pub use Rattle.batcher_agreement.specs.Lives.{held_by, VoterHistory, called, conduct_of, verified, VoterEvent, acts_of, learned_by, written}
 pub use Rattle.batcher_agreement.specs.Policy.{Conduct, IsGrounded, Knows, KnowsProposal, learned, voted, KeepsPolicy, HasVoted, IsCleared}
 pub use Rattle.batcher_bytes.specs.Format.{Format, whole}
 pub use Rattle.batcher_bytes.specs.Messages.{certificate_format, versioned, vote_format}
@@ -61,6 +64,7 @@ pub use Rattle.batcher_node.specs.Events.{forgery_came, view_entered, vote_came}
 pub use Rattle.batcher_node.specs.NodePromises.{IsNodePromised}
 pub use Rattle.batcher_node.specs.Nodes.{NodeConfig, slot_at, NodeView, SameNode, node_config, IsLedByAnother}
 pub use Rattle.batcher_node.specs.Represents.{MayNeedIn, NodeRepresents, SimulatesForward, NodeMeets, receipt, HasHistory, config_of}
+pub use Rattle.batcher_node.specs.Sending.{HoldsCertified}
 pub use Rattle.batcher_node.specs.Windows.{numbered, is_of, contains}
 pub use Rattle.batcher_node.specs.declared.answers.Cast.{Cast}
 pub use Rattle.batcher_node.specs.declared.answers.Cast.TheVariants.{ToSend}
@@ -71,9 +75,10 @@ pub use Rattle.batcher_node.specs.declared.answers.Verdict.TheVariants.{Forged, 
 pub use Rattle.batcher_node.specs.declared.node.Construction.{Construction}
 pub use Rattle.batcher_node.specs.declared.window.Window.{Window}
 pub use Rattle.batcher_types.proofs.VoteLemmas.{same_round-refl, same_round-true, same_subject-true, same_proposal-true}
-pub use Rattle.batcher_voter.specs.Knowledge.{HasLearned, IsHighest, Learns, SameKnowledge, KnowledgeView, learned_at, Forgets, AreNullified, IsParent, KnowsOf}
+pub use Rattle.batcher_voter.specs.Knowledge.{HasLearned, IsHighest, Learns, SameKnowledge, KnowledgeView, learned_at, Forgets, AreNullified}
+pub use Rattle.batcher_voter.specs.Knowledge.{IsParent, KnowsOf}
 pub use Rattle.batcher_voter.specs.Keeping.{DoesFor, HasOf, IsKnownAlready, IsKnownHere, WaitsFor, certificates_in, kept_for, HasOnDisk}
-pub use Rattle.batcher_voter.specs.Keeping.{IsFinalOf, IsKeptAmong, KeptNeedlessly, IsSafelyKept, KeepsWhatIsKnown}
+pub use Rattle.batcher_voter.specs.Keeping.{IsFinalOf, IsKeptAmong, IsSafelyKept, KeepsWhatIsKnown}
 pub use Rattle.batcher_voter.specs.Journals.{MayGain}
 pub use Rattle.batcher_voter.specs.Knowledge.{learned_of, nothing_learned, with_learned}
 pub use Rattle.batcher_voter.specs.Refusals.{HasNoGround, IsNotNotarized, IsRefused, RestsOnLearned}
@@ -87,9 +92,11 @@ pub use Rattle.batcher_voter.specs.declared.answers.CastFault.TheVariants.{Close
 pub use Rattle.batcher_voter.specs.declared.answers.CastFault.TheVariants.{Refused as RefusedBy, Signed}
 pub use Rattle.batcher_voter.specs.declared.answers.Permission.TheVariants.{Refused as RefusedVote, Sign}
 pub use Rattle.batcher_voter.specs.declared.answers.Rule.{Rule}
-pub use Rattle.batcher_voter.specs.declared.answers.Rule.TheVariants.{Contradicts, Nullified, NotNotarized, ParentBeforeFinal, ParentNotEarlier, ParentUnknown}
+pub use Rattle.batcher_voter.specs.declared.answers.Rule.TheVariants.{Contradicts, Nullified, NotNotarized, ParentBeforeFinal, ParentNotEarlier}
+pub use Rattle.batcher_voter.specs.declared.answers.Rule.TheVariants.{ParentUnknown}
 pub use Rattle.batcher_voter.specs.declared.answers.Rule.TheVariants.{ViewNotNullified}
 pub use Rattle.batcher_voter.specs.declared.knowledge.Learned.{Learned}
 pub use Rattle.batcher_voter.specs.declared.answers.StartFault.{StartFault}
 pub use Rattle.batcher_voter.specs.declared.answers.StartFault.TheVariants.{Forged as ForgedToStart, Malformed, NotFinal, OutOfMemory as NoMemoryToStart}
+pub use Rattle.batcher_voter.specs.Unstarted.{HasFinalization, HasUnread, IsVouched, IsCertifiedAs, KeepsReadable, WhyUncertified, all_in}
 pub use Rattle.batcher_voter.specs.Unstarted.{AreReadable, HasForged, HasNoFinalization, IsReadAs, IsNoCertificate, WhyNotLearned, WhyNotStarted, WhyUnread}

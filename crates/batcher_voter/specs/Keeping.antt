@@ -9,7 +9,7 @@ use Rattle.batcher.specs.messages.Subject.TheVariants.{Notarize, Nullify, Finali
 use Rattle.batcher.specs.positions.Round.{Round}
 use Rattle.batcher_bytes.specs.Format.{Format}
 use Rattle.batcher_bytes.specs.Messages.{versioned}
-use Rattle.batcher_journal.specs.Ready.{JournalView, Keeps}
+use Rattle.batcher_journal.specs.Ready.{JournalView}
 use Rattle.batcher_journal.specs.Records.{Certified}
 use Rattle.batcher_journal.specs.Text.{Contents}
 use Rattle.batcher_voter.specs.Knowledge.{KnowledgeView, learned_at}
@@ -95,16 +95,6 @@ module _ {C G D L : Type 0} (format : Format (Certificate C D)) (journal : Journ
   abbrev pub KeepsWhatIsKnown : KnowledgeView D → Option (Subject D) → Type 0
   KeepsWhatIsKnown knowledge waits =
       journal.is_open ≡ true → (s : Subject D) → IsKnownHere knowledge s → IsKeptOrWaits waits s
-
--- What a journal kept last isn't needed: without it all that is known is kept.
-pub record KeptNeedlessly {C G D L : Type 0} (format : Format (Certificate C D))
-    (journal : JournalView G D L) (knowledge : KnowledgeView D) (waits : Option (Subject D))
-    : Type 0
-  where
-    pub before : JournalView G D L
-    pub certified : Certified
-    pub keeps : Keeps before journal certified
-    pub enough : KeepsWhatIsKnown format before knowledge waits
 
 -- With its last write all that is known is on the disk, and nothing waits.
 pub record HasWrittenAll {S G D L : Type 0} (voter : VoterView S G D L) : Type 0 where

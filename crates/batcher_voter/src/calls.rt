@@ -1,7 +1,8 @@
 //! The calls of a voter's node, and what is learned by them.
 
 ghost use Rattle.std.specs.Prelude.{◌≡◌, ◌≢◌, ◌<◌, ◌≤◌, Err, IfNone, IfOk, IfSome, MatchBool, None};
-ghost use Rattle.std.specs.Prelude.{Ok, OnErr, OnOk, Some, is_some, option_and_then, true, false};
+ghost use Rattle.std.specs.Prelude.{Ok, OnErr, OnOk, Some, is_some, length, option_and_then, true};
+ghost use Rattle.std.specs.Prelude.{false};
 ghost use Rattle.std.specs.Option.{option_copied};
 ghost use Rattle.batcher.specs.Votes.{round_in, subject_certified, subject_of};
 ghost use Rattle.batcher_node.specs.Events.{certificate_came, constructed, view_entered, vote_came};
@@ -14,11 +15,13 @@ ghost use Rattle.batcher.specs.calls.Call.TheVariants.{Certificate as Certificat
 ghost use Rattle.batcher.specs.calls.Call.TheVariants.{Network as NetworkCall};
 ghost use Rattle.batcher_node.specs.Windows.{is_of};
 ghost use Rattle.batcher.specs.messages.Subject.{Subject as TheSubject};
+ghost use Rattle.batcher_bytes.specs.Format.{whole};
 ghost use Rattle.batcher_bytes.specs.Messages.{certificate_format, versioned};
 ghost use Rattle.batcher_journal.specs.Ready.{JournalView, Keeps};
 ghost use Rattle.batcher_journal.specs.Records.{Certified};
 ghost use Rattle.batcher_voter.specs.Keeping.{IsKeptAmong, IsKnownAlready, IsSafelyKept, kept_for};
-ghost use Rattle.batcher_voter.specs.Keeping.{KeptNeedlessly, WaitsFor};
+ghost use Rattle.batcher_voter.specs.Keeping.{WaitsFor};
+ghost use Rattle.batcher_voter.specs.Unstarted.{IsVouched};
 ghost use Rattle.batcher_voter.specs.Knowledge.{HasRoom, SameKnowledge, Learns};
 ghost use Rattle.batcher_voter.specs.Needing.{CertificateNeeds, ConstructionNeeds};
 ghost use Rattle.batcher_voter.specs.Voting.{IsOfItsView, VoterMeets, VoterStays, was_recorded};
@@ -31,9 +34,13 @@ use batcher::positions::{Participant, Round, View};
 use batcher::round::Admission;
 use batcher::scheme::Scheme;
 use batcher_bytes::{Codec, Log, OwnedCodec, encode_owned};
-use batcher_node::{Construction, EnterFault, NodeConfigs, Receipt, Verdict};
+use batcher_journal::Journal;
+use batcher_node::{
+    Construction, EnterFault, Node, NodeConfigs, Receipt, Verdict,
+    senders_of_votes_to_send_are_never_blocked,
+};
 use rand_core::CryptoRng;
-use std::alloc::AllocError;
+use std::alloc::{AllocError, Global};
 
 impl<S: Scheme<D>, D: Digest + Codec, L: Log> Voter<S, D, L>
 where
@@ -284,24 +291,44 @@ where
         ensures log { self.new.journal.log ≡ self.old.journal.log }
     {
         self.begins();
-        self.keeps_what_it_knows();
-        match self.keep(certificate) {
-            Ok(()) => match self.call_certificate(peer, certificate) {
-                Ok(receipt) => {
-                    if is_recorded(&receipt) {
-                        self.note(certificate.subject());
-                        return Ok(receipt);
-                    }
-                    self.take_back();
-                    Ok(receipt)
+        match self.call_kept(peer, certificate) {
+            Ok(answer) => {
+                if is_recorded(&answer) {
+                    self.note(certificate.subject());
+                    return Ok(answer);
                 }
-                Err(fault) => {
-                    self.take_back();
-                    Err(fault)
-                }
-            },
+                Ok(answer)
+            }
             Err(fault) => Err(fault),
         }
+    }
+
+    // The node takes it in.
+    fn call_kept(
+        &mut self,
+        peer: S::PublicKey,
+        certificate: &Certificate<S::Certificate, D>,
+    ) -> Result<Receipt<Verdict>, AllocError>
+        ensures meets { IfOk result (λ receipt. NodeMeets (⟦<S as NodeConfigs<D>>⟧.of self.old.node)
+            self.old.node (certificate_came peer certificate.now receipt) self.new.node) }
+        ensures kept { IfOk result (λ receipt. MatchBool (was_recorded receipt)
+            (Keeps self.old.journal self.new.journal (
+              round_in (subject_certified certificate.now),
+              (versioned (certificate_format S.Certificate.format D.format)).encoding
+                  certificate.now,
+            )) (self.new.journal ≡ self.old.journal)) }
+        ensures refused { OnErr result (self.new ≡ self.old) }
+        ensures same { SameNode self.old.node self.new.node }
+        ensures knowledge { self.new.knowledge ≡ self.old.knowledge }
+        ensures waits { self.new.waits ≡ self.old.waits }
+    {
+        take_in_kept(
+            self.alloc,
+            &mut self.node,
+            &mut self.journal,
+            peer,
+            certificate,
+        )
     }
 
     fn receive_outside(
@@ -420,6 +447,8 @@ where
         ensures copied { KeepsCopy L.is_copied_as self.old.journal.log self.new.journal.log }
     {
         self.begins();
+        self.has_history();
+        senders_of_votes_to_send_are_never_blocked::<S, D>();
         match self.call_construct(view, rng) {
             Ok(made) => match certificate_in(&made) {
                 Some(certificate) => {
@@ -487,6 +516,8 @@ where
     // Learns a certificate that the node made, of a view for which there is room. Where there is no
     // memory to keep it, it waits for that.
     pub(crate) fn learn(&mut self, certificate: &Certificate<S::Certificate, D>)
+        requires certifies { certifies_itself (S.meaning self.old.node.scheme) certificate.now
+            ≡ true }
         requires room { HasRoom self.old.knowledge
             (round_in (subject_certified certificate.now)).view.0 }
         requires epoch { (round_in (subject_certified certificate.now)).epoch
@@ -510,6 +541,8 @@ where
         &mut self,
         certificate: &Certificate<S::Certificate, D>,
     ) -> Result<(), AllocError>
+        requires certifies { certifies_itself (S.meaning self.old.node.scheme) certificate.now
+            ≡ true }
         requires room { HasRoom self.old.knowledge
             (round_in (subject_certified certificate.now)).view.0 }
         requires epoch { (round_in (subject_certified certificate.now)).epoch
@@ -546,11 +579,12 @@ where
         self.knowledge.has(&certificate.subject())
     }
 
-    // Keeps a certificate for the disk.
+    // Keeps a certificate for the disk, which certifies.
     pub(crate) fn keep(
         &mut self,
         certificate: &Certificate<S::Certificate, D>,
     ) -> Result<(), AllocError>
+        requires { certifies_itself (S.meaning self.old.node.scheme) certificate.now ≡ true }
         ensures kept { OnOk result (Keeps self.old.journal self.new.journal (
           round_in (subject_certified certificate.now),
           (versioned (certificate_format S.Certificate.format D.format)).encoding
@@ -561,14 +595,15 @@ where
         ensures knowledge { self.new.knowledge ≡ self.old.knowledge }
         ensures waits { self.new.waits ≡ self.old.waits }
     {
-        let mut bytes = Vec::new(self.alloc);
-        match encode_owned(certificate, &mut bytes) {
-            Ok(()) => self.keep_bytes(certificate.round(), &bytes),
+        match encoded(self.alloc, certificate) {
+            Ok(bytes) => self.keep_bytes(certificate.round(), &bytes),
             Err(fault) => Err(fault),
         }
     }
 
     fn keep_bytes(&mut self, round: Round, bytes: &[u8]) -> Result<(), AllocError>
+        requires { IsVouched (certificate_format S.Certificate.format D.format)
+            (certifies_itself (S.meaning self.old.node.scheme)) (round, bytes.now) }
         ensures kept { OnOk result
             (Keeps self.old.journal self.new.journal (round, bytes.now)) }
         ensures err { OnErr result (self.new ≡ self.old) }
@@ -577,19 +612,6 @@ where
         ensures waits { self.new.waits ≡ self.old.waits }
     {
         self.journal.keep(round, bytes)
-    }
-
-    // Takes back what was kept last, without which all that is known is kept.
-    fn take_back(&mut self)
-        requires { KeptNeedlessly (certificate_format S.Certificate.format D.format)
-            self.old.journal self.old.knowledge self.old.waits }
-        ensures back { (before : JournalView S.Signature D L) (it : Certified)
-            → Keeps before self.old.journal it → self.new.journal ≡ before }
-        ensures node { self.new.node ≡ self.old.node }
-        ensures knowledge { self.new.knowledge ≡ self.old.knowledge }
-        ensures waits { self.new.waits ≡ self.old.waits }
-    {
-        self.journal.take_back();
     }
 
     // A certificate of this is learned, which is kept, or waits for that.
@@ -635,7 +657,7 @@ where
     }
 
     // Keeps the certificate that waits for memory, if this is it. Where there is none, or another,
-    // nothing changes.
+    // or one that doesn't certify, nothing changes.
     fn keep_again(&mut self, certificate: &Certificate<S::Certificate, D>) -> Result<(), AllocError>
         ensures kept { OnOk result (self.old.waits ≡ Some (subject_certified certificate.now)
             → self.new.waits ≡ None) }
@@ -648,6 +670,10 @@ where
     {
         if !self.is_waiting(&certificate.subject()) {
             return Ok(());
+        }
+        // The one that waits was verified. Another of its subject may be handed in.
+        if !self.verifies(certificate) {
+            return Err(AllocError);
         }
         match self.keep(certificate) {
             Ok(()) => {
@@ -759,6 +785,103 @@ where
         ensures waits { self.new.waits ≡ self.old.waits }
     {
         self.knowledge.make_room(view)
+    }
+}
+
+// The node takes in a certificate, which is kept before, and taken back where it isn't recorded.
+fn take_in_kept<S: Scheme<D>, D: Digest + Codec, L: Log>(
+    alloc: Global,
+    node: &mut Node<S, D>,
+    journal: &mut Journal<S::Signature, D, L>,
+    peer: S::PublicKey,
+    certificate: &Certificate<S::Certificate, D>,
+) -> Result<Receipt<Verdict>, AllocError>
+where
+    S::Signature: Codec + Identical,
+    S::Certificate: OwnedCodec,
+    requires { 1 ≤ length (S.meaning node.old.scheme).participants }
+    ensures meets { IfOk result (λ receipt. NodeMeets (⟦<S as NodeConfigs<D>>⟧.of node.old)
+        node.old (certificate_came peer certificate.now receipt) node.new) }
+    ensures kept { IfOk result (λ receipt. MatchBool (was_recorded receipt)
+        (Keeps journal.old journal.new (
+          round_in (subject_certified certificate.now),
+          (versioned (certificate_format S.Certificate.format D.format)).encoding certificate.now,
+        )) (journal.new ≡ journal.old)) }
+    ensures certified { IfOk result (λ receipt. was_recorded receipt ≡ true
+        → IsVouched (certificate_format S.Certificate.format D.format)
+        (certifies_itself (S.meaning node.old.scheme)) (
+          round_in (subject_certified certificate.now),
+          (versioned (certificate_format S.Certificate.format D.format)).encoding certificate.now,
+        )) }
+    ensures refused { OnErr result ((node.new ≡ node.old) × (journal.new ≡ journal.old)) }
+    ensures same { SameNode node.old node.new }
+    ensures window { node.new.window ≡ node.old.window }
+{
+    let bytes = match encoded(alloc, certificate) {
+        Ok(bytes) => bytes,
+        Err(fault) => return Err(fault),
+    };
+    match journal.keep(certificate.round(), &bytes) {
+        Ok(()) => {}
+        Err(fault) => return Err(fault),
+    }
+    match take_in_verified(node, peer, certificate) {
+        Ok(it) => {
+            if is_recorded(&it) {
+                return Ok(it);
+            }
+            take_back(journal);
+            Ok(it)
+        }
+        Err(fault) => {
+            take_back(journal);
+            Err(fault)
+        }
+    }
+}
+
+// The node takes in a certificate. One that it records certifies.
+fn take_in_verified<S: Scheme<D>, D: Digest>(
+    node: &mut Node<S, D>,
+    peer: S::PublicKey,
+    certificate: &Certificate<S::Certificate, D>,
+) -> Result<Receipt<Verdict>, AllocError>
+    requires { 1 ≤ length (S.meaning node.old.scheme).participants }
+    ensures meets { IfOk result (λ receipt. NodeMeets (⟦<S as NodeConfigs<D>>⟧.of node.old)
+        node.old (certificate_came peer certificate.now receipt) node.new) }
+    ensures certifies { IfOk result (λ receipt. was_recorded receipt ≡ true
+        → certifies_itself (S.meaning node.old.scheme) certificate.now ≡ true) }
+    ensures refused { OnErr result (node.new ≡ node.old) }
+    ensures same { SameNode node.old node.new }
+    ensures window { node.new.window ≡ node.old.window }
+{
+    senders_of_votes_to_send_are_never_blocked::<S, D>();
+    node.promises();
+    node.receive_certificate(peer, certificate)
+}
+
+// Takes back what was kept last.
+fn take_back<G: Codec, D: Digest + Codec, L: Log>(journal: &mut Journal<G, D, L>)
+    ensures { (before : JournalView G D L) (it : Certified) → Keeps before journal.old it
+        → journal.new ≡ before }
+{
+    journal.take_back();
+}
+
+// The bytes of a certificate, which are read as it.
+pub(crate) fn encoded<C: OwnedCodec, D: Digest + Codec>(
+    alloc: Global,
+    certificate: &Certificate<C, D>,
+) -> Result<Vec<u8>, AllocError>
+    ensures bytes { IfOk result (λ it. it.items
+        ≡ (versioned (certificate_format C.format D.format)).encoding certificate.now) }
+    ensures read { IfOk result (λ it. whole (versioned (certificate_format C.format D.format))
+        it.items ≡ Ok certificate.now) }
+{
+    let mut bytes = Vec::new(alloc);
+    match encode_owned(certificate, &mut bytes) {
+        Ok(()) => Ok(bytes),
+        Err(fault) => Err(fault),
     }
 }
 

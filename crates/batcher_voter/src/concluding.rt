@@ -21,7 +21,7 @@ use batcher::positions::View;
 use batcher::round::RoundConfigs;
 use batcher::scheme::Scheme;
 use batcher_bytes::{Codec, Log, OwnedCodec};
-use batcher_node::{Construction, NodeConfigs};
+use batcher_node::{Construction, NodeConfigs, senders_of_votes_to_send_are_never_blocked};
 use std::alloc::AllocError;
 
 impl<S: Scheme<D>, D: Digest + Codec, L: Log> Voter<S, D, L>
@@ -115,6 +115,8 @@ where
         ensures copied { KeepsCopy L.is_copied_as self.old.journal.log self.new.journal.log }
     {
         self.begins();
+        self.has_history();
+        senders_of_votes_to_send_are_never_blocked::<S, D>();
         match self.call_conclude(view, subject, list, verdicts) {
             Ok(Some(made)) => match certificate_in(&made) {
                 Some(certificate) => {
@@ -290,6 +292,8 @@ where
         ensures copied { KeepsCopy L.is_copied_as self.old.journal.log self.new.journal.log }
     {
         self.begins();
+        self.has_history();
+        senders_of_votes_to_send_are_never_blocked::<S, D>();
         match self.call_conclude_with(view, subject, list, certificate) {
             Some(made) => match certificate_in(&made) {
                 Some(certificate) => {

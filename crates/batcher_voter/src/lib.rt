@@ -10,6 +10,7 @@ mod casting;
 mod concluding;
 mod knowledge;
 mod moving;
+mod reading;
 mod starting;
 mod voter;
 

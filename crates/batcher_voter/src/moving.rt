@@ -22,15 +22,17 @@ ghost use Rattle.batcher_voter.specs.declared.answers.FinalizeFault.{FinalizeFau
 ghost use Rattle.batcher_voter.specs.Keeping.{IsFinalOf, WaitsFor};
 ghost use Rattle.batcher.specs.messages.Subject.{Subject as TheSubject};
 ghost use Rattle.batcher_voter.specs.Knowledge.{Forgets, HasRoom};
+ghost use Rattle.batcher_voter.specs.Unstarted.{HasFinalization};
 ghost use Rattle.batcher_voter.specs.Voting.{ForEachLife, IsVoting, VoterStays, LeavesWhatWasDone};
 ghost use Rattle.batcher_bytes.specs.Copies.{KeepsCopy};
 
 use crate::answers::FinalizeFault;
+use crate::calls::encoded;
 use crate::voter::Voter;
 use batcher::messages::{Certificate, Digest, Identical, Kind, Subject};
 use batcher::positions::Round;
 use batcher::scheme::Scheme;
-use batcher_bytes::{Codec, Log, OwnedCodec, encode_owned};
+use batcher_bytes::{Codec, Log, OwnedCodec};
 use batcher_journal::{RaiseFault, bytes_are_of_one_journal};
 use batcher_node::NodeConfigs;
 
@@ -155,11 +157,10 @@ where
         self.begins();
         self.leaves_what_was_done();
         bytes_are_of_one_journal::<S::Signature, D>();
-        let mut bytes = Vec::new(self.alloc);
-        match encode_owned(finalization, &mut bytes) {
-            Ok(()) => {}
+        let bytes = match encoded(self.alloc, finalization) {
+            Ok(bytes) => bytes,
             Err(_) => return Err(FinalizeFault::OutOfMemory),
-        }
+        };
         match self.move_to(finalization.round(), &bytes) {
             Ok(()) => {
                 self.note(finalization.subject());
@@ -178,6 +179,10 @@ where
         requires up { self.old.node.window.finalized ≤ round.view.0 }
         requires finalizes { IsFinalOf (certificate_format S.Certificate.format D.format) round
             finalization.now }
+        requires readable { HasFinalization (certificate_format S.Certificate.format D.format)
+            (raised self.old.journal.contents self.old.journal.unwritten
+            self.old.journal.contents.owner round finalization.now)
+            (certifies_itself (S.meaning self.old.node.scheme)) }
         ensures raised { OnOk result ((self.old.journal.is_open ≡ true)
             × (is_below self.old.journal.contents.floor round ≡ false)
             × HasContents self.new.journal

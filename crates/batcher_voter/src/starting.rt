@@ -11,7 +11,7 @@ ghost use Rattle.batcher_bytes.specs.Format.{whole};
 ghost use Rattle.batcher_bytes.specs.Messages.{certificate_format, versioned};
 ghost use Rattle.batcher_voter.specs.Keeping.{HasOnDisk};
 ghost use Rattle.batcher_types.specs.declared.positions.Round.{Round as TheRound};
-ghost use Rattle.batcher_voter.specs.Unstarted.{AreReadable, WhyNotLearned, WhyNotStarted};
+ghost use Rattle.batcher_voter.specs.Unstarted.{AreReadable, WhyNotLearned, WhyNotStarted, all_in};
 ghost use Rattle.batcher_voter.specs.Unstarted.{WhyUnread};
 ghost use Rattle.batcher_journal.specs.Text.{Contents};
 ghost use Rattle.batcher_voter.specs.declared.answers.StartFault.{StartFault as TheFault};
@@ -25,6 +25,7 @@ ghost use Rattle.batcher_voter.specs.Voting.{HasStarted};
 
 use crate::answers::StartFault;
 use crate::knowledge::Knowledge;
+use crate::reading::read;
 use crate::voter::Voter;
 use batcher::messages::{Certificate, Digest, Identical, Kind};
 use batcher::positions::Round;
@@ -48,8 +49,8 @@ where
     S::Certificate: OwnedCodec,
 {
     /// The voter whose votes are in a journal. Its view is that of the journal's floor, of which it
-    /// knows the finalization, and it knows the certificates that were written with votes. All of
-    /// them are verified again.
+    /// knows the finalization, and it knows the certificates that were written with votes. All that
+    /// the journal has are verified again.
     pub fn start(
         alloc: Global,
         scheme: Rc<S>,
@@ -76,8 +77,9 @@ where
         }) }
         ensures journal { IfOk result (λ voter. voter.journal ≡ journal) }
         ensures refused { IfErr result (λ it. it.journal ≡ journal) }
+        // Also what isn't written yet has to be readable, since its next write puts that there.
         ensures why { IfErr result (λ it. WhyNotStarted
-            (certificate_format S.Certificate.format D.format) journal.contents
+            (certificate_format S.Certificate.format D.format) (all_in journal)
             (certifies_itself (S.meaning scheme.value)) it.fault) }
     {
         let mut voter = match Voter::begin(alloc, scheme, ahead, track_historical_votes, journal) {
@@ -93,7 +95,7 @@ where
         }
     }
 
-    // A node and a journal, put together.
+    // A node and a journal that is readable, put together.
     fn begin(
         alloc: Global,
         scheme: Rc<S>,
@@ -115,8 +117,13 @@ where
           ahead = ahead;
         }) }
         ensures journal { IfOk result (λ voter. voter.journal ≡ journal) }
+        ensures readable { IfOk result (λ voter. AreReadable
+            (certificate_format S.Certificate.format D.format) journal.contents
+            (certifies_itself (S.meaning scheme.value))) }
         ensures refused { IfErr result (λ it. it.journal ≡ journal) }
-        ensures memory { IfErr result (λ it. it.fault ≡ NoMemory) }
+        ensures why { IfErr result (λ it. WhyNotStarted
+            (certificate_format S.Certificate.format D.format) (all_in journal)
+            (certifies_itself (S.meaning scheme.value)) it.fault) }
     {
         let floor = journal.floor();
         let made = Node::new(
@@ -128,13 +135,19 @@ where
             track_historical_votes,
         );
         match made {
-            Ok(node) => Ok(Voter {
-                alloc,
-                node,
-                journal,
-                knowledge: Knowledge::new(alloc, floor.epoch, floor.view.0),
-                waits: None,
-            }),
+            Ok(node) => match read(alloc, &node, &journal) {
+                Ok(()) => Ok(Voter {
+                    alloc,
+                    node,
+                    journal,
+                    knowledge: Knowledge::new(alloc, floor.epoch, floor.view.0),
+                    waits: None,
+                }),
+                Err(fault) => {
+                    drop(node);
+                    Err(NotStarted { fault, journal })
+                }
+            },
             Err(_) => Err(NotStarted {
                 fault: StartFault::OutOfMemory,
                 journal,
@@ -153,7 +166,9 @@ where
 
     // Learns what the journal has.
     fn learn_all(&mut self) -> Result<(), StartFault>
-        requires { self.old.node.epoch ≡ self.old.journal.contents.floor.epoch }
+        requires epoch { self.old.node.epoch ≡ self.old.journal.contents.floor.epoch }
+        requires readable { AreReadable (certificate_format S.Certificate.format D.format)
+            self.old.journal.contents (certifies_itself (S.meaning self.old.node.scheme)) }
         ensures started { OnOk result ((earlier : Conduct D)
             → HasStarted (⟦<S as NodeConfigs<D>>⟧.of self.old.node) earlier self.old
             → HasStarted (⟦<S as NodeConfigs<D>>⟧.of self.old.node) earlier self.new) }
@@ -179,7 +194,9 @@ where
 
     // Learns the floor's finalization. The start of an epoch has none.
     fn learn_floor(&mut self) -> Result<(), StartFault>
-        requires { self.old.node.epoch ≡ self.old.journal.contents.floor.epoch }
+        requires epoch { self.old.node.epoch ≡ self.old.journal.contents.floor.epoch }
+        requires readable { AreReadable (certificate_format S.Certificate.format D.format)
+            self.old.journal.contents (certifies_itself (S.meaning self.old.node.scheme)) }
         ensures started { OnOk result ((earlier : Conduct D)
             → HasStarted (⟦<S as NodeConfigs<D>>⟧.of self.old.node) earlier self.old
             → HasStarted (⟦<S as NodeConfigs<D>>⟧.of self.old.node) earlier self.new) }
@@ -217,6 +234,8 @@ where
 
     // Learns the certificates that were written with votes.
     fn learn_kept(&mut self) -> Result<(), StartFault>
+        requires readable { AreReadable (certificate_format S.Certificate.format D.format)
+            self.old.journal.contents (certifies_itself (S.meaning self.old.node.scheme)) }
         ensures started { OnOk result ((earlier : Conduct D)
             → HasStarted (⟦<S as NodeConfigs<D>>⟧.of self.old.node) earlier self.old
             → HasStarted (⟦<S as NodeConfigs<D>>⟧.of self.old.node) earlier self.new) }
@@ -240,7 +259,9 @@ where
     }
 
     fn learn_at(&mut self, i: usize) -> Result<(), StartFault>
-        requires { i < length self.old.journal.contents.certificates }
+        requires within { i < length self.old.journal.contents.certificates }
+        requires readable { AreReadable (certificate_format S.Certificate.format D.format)
+            self.old.journal.contents (certifies_itself (S.meaning self.old.node.scheme)) }
         ensures started { OnOk result ((earlier : Conduct D)
             → HasStarted (⟦<S as NodeConfigs<D>>⟧.of self.old.node) earlier self.old
             → HasStarted (⟦<S as NodeConfigs<D>>⟧.of self.old.node) earlier self.new) }
@@ -324,13 +345,15 @@ where
         }
     }
 
-    // Verifies a certificate of a round, and learns it. One of another epoch is passed over.
+    // Learns a certificate of a round, which certifies. One of another epoch is passed over.
     fn take_in(
         &mut self,
         round: Round,
         certificate: &Certificate<S::Certificate, D>,
     ) -> Result<(), StartFault>
-        requires { round_in (subject_certified certificate.now) ≡ round
+        requires certifies { certifies_itself (S.meaning self.old.node.scheme) certificate.now
+            ≡ true }
+        requires there { round_in (subject_certified certificate.now) ≡ round
             → HasOnDisk (certificate_format S.Certificate.format D.format)
             self.old.journal.contents certificate.now }
         ensures started { OnOk result ((earlier : Conduct D)
@@ -353,9 +376,6 @@ where
         }
         if round.epoch.0 != self.epoch().0 {
             return Ok(());
-        }
-        if !self.verifies(certificate) {
-            return Err(StartFault::Forged);
         }
         match self.make_room(round.view.0) {
             Ok(()) => {
@@ -403,7 +423,7 @@ where
 {}
 
 // The certificate that bytes are.
-fn decoded<C: OwnedCodec, D: Digest + Codec>(
+pub(crate) fn decoded<C: OwnedCodec, D: Digest + Codec>(
     alloc: Global,
     bytes: &[u8],
 ) -> Result<Certificate<C, D>, StartFault>

@@ -5,7 +5,10 @@ ghost use Rattle.batcher_journal.specs.Answers.{MayBeWrittenBehind};
 ghost use Rattle.batcher_journal.specs.Ready.{IsOnDisk};
 ghost use Rattle.batcher_bytes.specs.Messages.{certificate_format, vote_format};
 ghost use Rattle.batcher_node.specs.Windows.{is_of};
+ghost use Rattle.batcher.specs.Verifiers.{certifies_itself};
+ghost use Rattle.batcher_node.specs.Represents.{HasHistory};
 ghost use Rattle.batcher_voter.specs.Keeping.{KeepsWhatIsKnown};
+ghost use Rattle.batcher_voter.specs.Unstarted.{KeepsReadable, LeavesReadable};
 ghost use Rattle.batcher_voter.specs.Voting.{BeginWithOneView, ForEachLife, VoterView};
 ghost use Rattle.batcher_voter.specs.Voting.{LeavesWhatWasDone, VoterStays};
 ghost use Rattle.batcher_bytes.specs.Copies.{is_done_in, is_given};
@@ -43,8 +46,10 @@ where
     S::Certificate: OwnedCodec,
 {
     ghost use Rattle.std.specs.Prelude.{◌≤◌, length};
+    ghost use Rattle.batcher.specs.Verifiers.{certifies_itself};
     ghost use Rattle.batcher_bytes.specs.Messages.{certificate_format};
     ghost use Rattle.batcher_voter.specs.Keeping.{KeepsWhatIsKnown};
+    ghost use Rattle.batcher_voter.specs.Unstarted.{KeepsReadable};
     ghost use Rattle.batcher_voter.specs.Voting.{BeginWithOneView, VoterView};
 
     ghost Value = { VoterView S S.Signature D L };
@@ -62,8 +67,10 @@ where
           journal = v.journal;
           knowledge = v.knowledge;
           waits = v.waits;
-        }) × KeepsWhatIsKnown (certificate_format S.Certificate.format D.format) v.journal
-        v.knowledge v.waits) };
+        }) × (KeepsWhatIsKnown (certificate_format S.Certificate.format D.format) v.journal
+        v.knowledge v.waits
+        × KeepsReadable (certificate_format S.Certificate.format D.format)
+        (certifies_itself (S.meaning v.node.scheme)) v.journal)) };
 }
 
 impl<S: Scheme<D>, D: Digest + Codec, L: Log> Voter<S, D, L>
@@ -116,6 +123,22 @@ where
         let _ = &self.node;
     }
 
+    /// Does nothing. All that an open journal has, written or not, is read as certificates of their
+    /// rounds that certify, and its floor's as a finalization.
+    pub fn keeps_what_is_readable(&self)
+        ensures { KeepsReadable (certificate_format S.Certificate.format D.format)
+            (certifies_itself (S.meaning self.now.node.scheme)) self.now.journal }
+    {
+        let _ = &self.node;
+    }
+
+    // Does nothing. There is a history that its node represents.
+    pub(crate) fn has_history(&self)
+        ensures { HasHistory (⟦<S as NodeConfigs<D>>⟧.of self.now.node) self.now.node }
+    {
+        self.node.promises();
+    }
+
     /// The subject of the certificate that waits for memory, to be kept for the disk.
     pub fn waits(&self) -> Option<Subject<D>>
         ensures { result ≡ self.now.waits }
@@ -153,6 +176,20 @@ where
             LeavesWhatWasDone (vote_format S.Signature.format D.format) past earlier left) }
     {
         bytes_are_of_one_journal::<S::Signature, D>();
+        let _ = self.is_open();
+    }
+
+    /// Does nothing. What a crash leaves, where nothing is under way, is readable, so that a start
+    /// from it is refused for memory alone (`what_is_readable_starts`).
+    pub fn leaves_what_is_readable(&self)
+        ensures { (left : List ℕ) → self.now.journal.is_open ≡ true
+            → L.is_honest self.now.journal.log → L.may_leave self.now.journal.log left
+            → LeavesReadable (certificate_format S.Certificate.format D.format)
+            (vote_format S.Signature.format D.format)
+            (certifies_itself (S.meaning self.now.node.scheme)) left }
+    {
+        bytes_are_of_one_journal::<S::Signature, D>();
+        self.keeps_what_is_readable();
         let _ = self.is_open();
     }
 }

@@ -153,6 +153,8 @@ config! {
         partition: u64 = 0,
         /// Whether a partition cuts off one, and not halves.
         isolates: bool = false,
+        /// From when on nothing comes of anybody, until the network is quiet; 0 is never.
+        silence: u64 = 0,
         /// How long a life is at the mean; 0 is for ever.
         life: u64 = 0,
         /// How long all live at the mean before all crash at once; 0 is for ever.
@@ -470,6 +472,48 @@ pub const PRESETS: &[Preset] = &[
         reaches: &[Mark::Partition, Mark::FromAhead],
         fails: None,
     },
+    // All are cut off from all, for a thousand timeouts.
+    Preset {
+        name: "silence",
+        change: |it, drawn| {
+            let plain = Config::plain(it.seed, it.count);
+            *it = Config {
+                faulty: it.faulty.clone(),
+                lead: it.lead,
+                silence: drawn.pick(&[1, 3, 10, 30]) * TIMEOUT,
+                quiet: 1_030 * TIMEOUT,
+                lost: drawn.pick(&[0, 200]),
+                life: drawn.pick(&[0, 0, 200]) * TIMEOUT,
+                life_of_all: drawn.pick(&[0, 300]) * TIMEOUT,
+                ..plain
+            };
+        },
+        reaches: &[Mark::Expired, Mark::CrashOfAll],
+        fails: None,
+    },
+    // One is down or cut off for so long that the others take it for absent, and comes back; now and
+    // then all are started again at once. Two of three others may come to hear nothing of each other.
+    Preset {
+        name: "absences",
+        change: |it, drawn| {
+            let plain = Config::plain(it.seed, it.count);
+            *it = Config {
+                faulty: it.faulty.clone(),
+                lead: it.lead,
+                quiet: drawn.pick(&[60, 100]) * TIMEOUT,
+                lost: drawn.pick(&[0, 0, 300, 800]),
+                partition: drawn.pick(&[0, 20, 40]) * TIMEOUT,
+                isolates: drawn.chance(700),
+                life: drawn.pick(&[20, 40]) * TIMEOUT,
+                life_of_all: drawn.pick(&[0, 30]) * TIMEOUT,
+                down: drawn.pick(&[10, 100, 300]) * DELTA,
+                doubles: drawn.chance(300),
+                ..plain
+            };
+        },
+        reaches: &[Mark::GaveUp, Mark::CrashOfAll, Mark::Partition],
+        fails: None,
+    },
     // One is cut off while the others go on by the help of a faulty one that nullifies. Then that one
     // falls silent, so that the one that was cut off is needed.
     Preset {
@@ -628,6 +672,7 @@ pub const SMALLER: &[fn(&mut Config)] = &[
     |it| it.delay = DELTA,
     |it| it.partition = 0,
     |it| it.isolates = false,
+    |it| it.silence = 0,
     |it| it.life = 0,
     |it| it.life_of_all = 0,
     |it| it.task_crashes = 0,

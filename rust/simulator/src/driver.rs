@@ -81,6 +81,18 @@ fn leader(view: View) -> Participant {
     Participant::new(lead.leader(seed, count, view.get()))
 }
 
+fn options(run: &Config, epoch: u64, me: u32) -> Options<'static> {
+    Options {
+        epoch: Epoch::new(epoch),
+        me: Participant::new(me),
+        participants: run.count,
+        keys: [4; 32],
+        namespace: b"simulator",
+        ahead: run.ahead,
+        track_historical_votes: run.keeps_votes,
+    }
+}
+
 pub struct Driver {
     running: Loop<Signature>,
     calls: Calls,
@@ -140,15 +152,7 @@ impl Driver {
         disk: &[u8],
         calls: &mut Option<Calls>,
     ) -> Answer<Self> {
-        let options = Options {
-            epoch: Epoch::new(epoch),
-            me: Participant::new(me),
-            participants: run.count,
-            keys: [4; 32],
-            namespace: b"simulator",
-            ahead: run.ahead,
-            track_historical_votes: run.keeps_votes,
-        };
+        let options = options(run, epoch, me);
         let by = calls.as_mut().expect("they are given back");
         let running = if disk.is_empty() {
             by.call(Mark::RefusedBegin, || Loop::begin(&options, leader))?
@@ -161,6 +165,28 @@ impl Driver {
             running,
             calls: calls.take().expect("they were there"),
         })
+    }
+
+    /// Whether one that is started by a disk with these bytes comes to give this as final.
+    pub fn finds_final(
+        run: &Config,
+        epoch: u64,
+        me: u32,
+        disk: &[u8],
+        proposal: &Proposal,
+    ) -> bool {
+        let started = Loop::start(&options(run, epoch, me), leader, disk, verdicts);
+        let Ok(mut running) = started else {
+            return false;
+        };
+        while let Ok(Some(task)) = running.poll() {
+            match task {
+                Task::Final(other) if other == *proposal => return true,
+                Task::Write(write) => running.wrote(write).expect("it has no files"),
+                _ => {}
+            }
+        }
+        false
     }
 
     /// It is stopped, and leaves what came of its calls.
@@ -220,7 +246,7 @@ impl Driver {
         let verify = |wanted: &_| uncounted(|| verdicts(wanted));
         let call = || self.running.signed(subject, signature, verify);
         match self.calls.call(Mark::RefusedSigned, call) {
-            Ok(()) => Ok(true),
+            Ok(_) => Ok(true),
             Err(SignError::NotVerified) => Ok(false),
             Err(SignError::OutOfMemory) => Err(Fault::Memory),
             Err(other) => Err(Fault::Broken(other.to_string())),
@@ -249,6 +275,7 @@ impl Driver {
             Ok(None) => Ok(Kept::Nothing),
             Err(KeptError::NotWritten) => Ok(Kept::Later),
             Err(KeptError::OutOfMemory) => Err(Fault::Memory),
+            Err(other) => Err(Fault::Broken(other.to_string())),
         }
     }
 

@@ -37,6 +37,8 @@ pub struct Node {
     pub timer: u64,
     /// How many timers have ended in this life.
     pub expired: u64,
+    /// The last view whose timer ended, or of which a proposal isn't valid.
+    pub over: u64,
     pub given: HashSet<Given>,
     /// Whether a task waits that memory was refused for, and whether a timer ended meanwhile: then it
     /// may be given once more.
@@ -67,6 +69,7 @@ impl Node {
             last: 0,
             timer: 0,
             expired: 0,
+            over: 0,
             given: HashSet::new(),
             waits: false,
             waited: false,
@@ -86,6 +89,7 @@ impl Node {
         self.view = 0;
         self.last = 0;
         self.expired = 0;
+        self.over = 0;
         self.given.clear();
         self.waits = false;
         self.waited = false;

@@ -55,6 +55,7 @@ marks! {
     Crash: "a crash",
     Final: "a final view",
     Expired: "a timer that ended",
+    GaveUp: "a view that is given up for its leader",
     Event: "an event",
 }
 

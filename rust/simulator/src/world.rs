@@ -281,6 +281,10 @@ impl World {
                 self.go_on(it);
             }
             Event::Judged(it, life, proposal, is_valid) => {
+                if !is_valid {
+                    let (view, node) = (proposal.round.view.get(), self.node(it));
+                    node.over = node.over.max(view.min(node.view));
+                }
                 if let Some(driver) = self.driver(it, life) {
                     driver.judge(&proposal, is_valid);
                     self.go_on(it);

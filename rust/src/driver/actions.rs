@@ -18,7 +18,8 @@ pub enum Action<G, E> {
     /// Send this to all others. Whom it doesn't reach gets it after [`Driver::expire`].
     Send(Message<G>),
     /// This view is entered: start its timer, as by [`Driver::patience`]. Once it is over call
-    /// [`Driver::expire`], and start it again.
+    /// [`Driver::expire`], and start it again. Where its leader is blocked, or absent, the view is
+    /// given up already.
     Enter {
         /// The view.
         view: View,

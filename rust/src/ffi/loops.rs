@@ -93,7 +93,22 @@ unsafe extern "C" {
         proposal: *const Proposal,
         bytes: *const u8,
         bytes_length: usize,
-        certifies: bool,
+        verdicts: *const bool,
+        verdicts_length: usize,
+    ) -> u8;
+    fn batcher_loop_listed(
+        validator: *const LoopHandle,
+        bytes: *const u8,
+        bytes_length: usize,
+        list: *mut Attestation,
+        list_length: usize,
+        count: *mut u64,
+    ) -> u8;
+    fn batcher_loop_wants(
+        validator: *const LoopHandle,
+        peer: u64,
+        kind: u8,
+        proposal: *const Proposal,
     ) -> u8;
     fn batcher_loop_lend(
         validator: *mut LoopHandle,
@@ -112,11 +127,25 @@ unsafe extern "C" {
         verdicts: *const bool,
         verdicts_length: usize,
     ) -> u8;
+    fn batcher_loop_message(
+        validator: *const LoopHandle,
+        kind: u8,
+        proposal: *const Proposal,
+        room: *mut u8,
+        room_length: usize,
+        count: *mut u64,
+    ) -> u8;
     fn batcher_loop_cast(validator: *mut LoopHandle, vote: *const Vote, attests: bool) -> u8;
     fn batcher_loop_enter(validator: *mut LoopHandle, view: u64, leader: u32) -> u8;
     fn batcher_loop_judge(validator: *mut LoopHandle, proposal: *const Proposal, valid: bool)
     -> u8;
     fn batcher_loop_expire(validator: *mut LoopHandle, view: u64, progress: *mut Progress) -> u8;
+    fn batcher_loop_progress(
+        validator: *const LoopHandle,
+        view: u64,
+        progress: *mut Progress,
+    ) -> u8;
+    fn batcher_loop_views(validator: *const LoopHandle, current: *mut u64, last: *mut u64) -> u8;
     fn batcher_loop_hears(validator: *const LoopHandle, peer: u64) -> u8;
     fn batcher_loop_certified(
         validator: *const LoopHandle,
@@ -159,7 +188,7 @@ impl Loop {
             at: ptr::null_mut(),
         };
         let mut made = Loop { handle };
-        super::batcher_abi_5();
+        super::batcher_abi_6();
         // SAFETY: as above; an empty handle is a null pointer.
         let answer = unsafe {
             batcher_loop_start(
@@ -211,7 +240,7 @@ impl Loop {
         kind: u8,
         proposal: &Proposal,
         bytes: &[u8],
-        certifies: bool,
+        verdicts: &[bool],
     ) -> u8 {
         // SAFETY: as above.
         unsafe {
@@ -222,9 +251,30 @@ impl Loop {
                 proposal,
                 bytes.as_ptr(),
                 bytes.len(),
-                certifies,
+                verdicts.as_ptr(),
+                verdicts.len(),
             )
         }
+    }
+
+    pub(crate) fn listed(&self, bytes: &[u8], list: &mut [Attestation], count: &mut u64) -> u8 {
+        let (room, length) = (list.as_mut_ptr(), list.len());
+        // SAFETY: as above.
+        unsafe {
+            batcher_loop_listed(
+                &self.handle,
+                bytes.as_ptr(),
+                bytes.len(),
+                room,
+                length,
+                count,
+            )
+        }
+    }
+
+    pub(crate) fn wants(&self, peer: u64, kind: u8, proposal: &Proposal) -> u8 {
+        // SAFETY: as above.
+        unsafe { batcher_loop_wants(&self.handle, peer, kind, proposal) }
     }
 
     pub(crate) fn lend(
@@ -260,6 +310,19 @@ impl Loop {
         }
     }
 
+    pub(crate) fn message(
+        &self,
+        kind: u8,
+        proposal: &Proposal,
+        bytes: &mut Vec<u8>,
+        count: &mut u64,
+    ) -> u8 {
+        write_into(bytes, count, |room, length, count| {
+            // SAFETY: as above, and the room is as long as is said.
+            unsafe { batcher_loop_message(&self.handle, kind, proposal, room, length, count) }
+        })
+    }
+
     pub(crate) fn cast(&mut self, vote: &Vote, attests: bool) -> u8 {
         // SAFETY: as above.
         unsafe { batcher_loop_cast(&mut self.handle, vote, attests) }
@@ -278,6 +341,16 @@ impl Loop {
     pub(crate) fn expire(&mut self, view: u64, progress: &mut Progress) -> u8 {
         // SAFETY: as above.
         unsafe { batcher_loop_expire(&mut self.handle, view, progress) }
+    }
+
+    pub(crate) fn progress(&self, view: u64, progress: &mut Progress) -> u8 {
+        // SAFETY: as above.
+        unsafe { batcher_loop_progress(&self.handle, view, progress) }
+    }
+
+    pub(crate) fn views(&self, current: &mut u64, last: &mut u64) -> u8 {
+        // SAFETY: as above.
+        unsafe { batcher_loop_views(&self.handle, current, last) }
     }
 
     pub(crate) fn hears(&self, peer: u64) -> u8 {

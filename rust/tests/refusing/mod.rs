@@ -118,6 +118,7 @@ pub fn once<R>(granted: &mut Option<u32>, call: impl FnOnce() -> R) -> R {
 }
 
 /// The same, with the call made once more where memory was refused.
+#[allow(dead_code)]
 pub fn again<R, E: Copy + Into<Error>>(
     granted: &mut Option<u32>,
     mut call: impl FnMut() -> Result<R, E>,

@@ -9,6 +9,7 @@ pub const KEYS: [&str; 7] = ["ada", "ben", "cyd", "dot", "eve", "fay", "gus"];
 pub const ROUND: batcher::positions::Round =
     batcher::positions::Round::new(batcher::Epoch::new(0), batcher::View::new(1));
 
+#[derive(Debug)]
 pub struct Toy {
     participants: batcher::Set<&'static str>,
     pub batchable: bool,

@@ -5,7 +5,7 @@ use crate::messages::Message;
 use crate::record::Record;
 use crate::sodium::{KeyPair, PublicKey, Signature, sha256, verify};
 use crate::transport::{Inbox, Peers};
-use batcher::looping::{Loop, Options, Task, Wanted};
+use batcher::looping::{Loop, Options, Task, Wanted, timeout};
 use batcher::{Attestation, Epoch, Files, Opened, Participant, Sha256Digest, Subject, View, Vote};
 use std::error::Error;
 use std::sync::mpsc::RecvTimeoutError;
@@ -74,17 +74,11 @@ impl Validator {
                 Ok((sender, message)) => self.hear(sender, message)?,
                 Err(RecvTimeoutError::Timeout) => {
                     self.running.expire(self.view);
-                    self.deadline = Instant::now() + self.patience();
+                    self.deadline = Instant::now() + timeout(PATIENCE, self.last, self.view);
                 }
                 Err(RecvTimeoutError::Disconnected) => return Ok(()),
             }
         }
-    }
-
-    /// That doubles with each view that isn't final, up to four seconds.
-    fn patience(&self) -> Duration {
-        let behind = self.view.get().saturating_sub(self.last.get() + 1).min(4);
-        PATIENCE * (1 << behind)
     }
 
     fn hear(&mut self, sender: Participant, message: Message) -> Outcome<()> {
@@ -126,9 +120,9 @@ impl Validator {
                 let message = Message::Certificate(certificate);
                 self.station.fault.send(self, message);
             }
-            Task::Enter(view) => {
+            Task::Enter { view, .. } => {
                 self.view = view;
-                self.deadline = Instant::now() + self.patience();
+                self.deadline = Instant::now() + timeout(PATIENCE, self.last, self.view);
             }
             Task::Verify(wanted) => {
                 let verdicts = verdicts(&self.station.participants, &wanted);
@@ -138,7 +132,7 @@ impl Validator {
                 let signature = self.sign(&subject)?;
                 let participants = &self.station.participants;
                 let verify = |wanted: &_| verdicts(participants, wanted);
-                self.running.signed(subject, &signature, verify)?;
+                let _ = self.running.signed(subject, &signature, verify)?;
             }
             Task::Propose { view, parent } => {
                 let numbers = [view, parent].map(|it| it.get().to_be_bytes());
@@ -148,6 +142,7 @@ impl Validator {
             // There is nothing in a payload here.
             Task::Judge(proposal) => self.running.judge(&proposal, true),
             Task::Forward(..) => {}
+            other => unreachable!("{other:?}"),
         }
         Ok(())
     }

@@ -1,12 +1,15 @@
 //! What has to hold of what validators show to others, and of what is final.
 
 use super::{Event, World};
-use crate::driver::{Fault, Kept};
+use crate::driver::{Driver, Fault, Kept};
 use crate::messages::{Message, Signature, number_of, round, sign, signature_in};
 use crate::reached::Mark;
 use batcher::looping::Listed;
 use batcher::{Kind, Proposal, Subject, View, Vote};
 use std::rc::Rc;
+
+/// A disk with so many bytes has much.
+const LONG: usize = 1 << 15;
 
 impl World {
     pub(super) fn send_vote(&mut self, it: u32, vote: Vote<Signature>) {
@@ -97,6 +100,14 @@ impl World {
             self.fail(format!("BACK: view {view} is final at {it} behind another"));
         }
         self.node(it).last = view;
+        let disk = &self.nodes[it as usize].disk.bytes;
+        // Starting one takes a while, and more where its disk has much.
+        let is_looked_at = disk.len() < LONG && (view + u64::from(it)) % 4 == 0;
+        if is_looked_at && !Driver::finds_final(&self.run, epoch, it, disk, &proposal) {
+            self.fail(format!(
+                "EARLY: view {view} is final at {it}, whose disk lacks that"
+            ));
+        }
         let first = *self.finals.entry((epoch, view)).or_insert(proposal);
         if first != proposal && self.run.agrees {
             self.fail(format!("FORK: two final proposals of {}", proposal.round));

@@ -18,7 +18,8 @@ impl World {
             return self.plan(time, Event::Hear(from, to, message.clone()));
         }
         let is_cut = self.side[from as usize] != self.side[to as usize];
-        if is_cut || self.numbers.chance(self.run.lost) {
+        let is_silent = self.run.silence > 0 && now >= self.run.silence;
+        if is_cut || is_silent || self.numbers.chance(self.run.lost) {
             return;
         }
         let copies = if self.numbers.chance(self.run.twice) {

@@ -8,7 +8,7 @@ use crate::node::Given;
 use crate::numbers::mixed;
 use crate::reached::Mark;
 use batcher::looping::{Task, Wanted, Write};
-use batcher::{Sha256Digest, Subject, View};
+use batcher::{Kind, Sha256Digest, Subject, View};
 
 impl World {
     /// Has a validator do all that is to be done.
@@ -95,7 +95,7 @@ impl World {
                 self.broadcast(it, Message::Certificate(certificate));
             }
             Task::Forward(..) => {}
-            Task::Enter(view) => self.enter(it, life, view.get()),
+            Task::Enter { view, .. } => self.enter(it, life, view.get()),
             Task::Verify(wanted) => {
                 for one in wanted.attestations() {
                     let node = &self.nodes[it as usize];
@@ -114,6 +114,14 @@ impl World {
                     .map_or(0, |proposal| number_of(&proposal));
                 let given = (11 + subject.kind() as u8, view, number, expired);
                 self.once(it, given, "a subject to sign");
+                if subject.kind() == Kind::Nullification && view > self.node(it).over {
+                    self.reached.note(Mark::GaveUp);
+                    if self.run.leader(view) == it {
+                        self.fail(format!(
+                            "GIVEN UP: {it} gives up view {view}, which it leads"
+                        ));
+                    }
+                }
                 let time = self.now + self.delay(self.run.signer);
                 self.plan(time, Event::Signed(it, life, subject));
             }
@@ -139,6 +147,7 @@ impl World {
                 }
                 self.plan(time, Event::Judged(it, life, proposal, !disputed));
             }
+            other => self.fail(format!("TASK: {it}: {other:?}")),
         }
     }
 
@@ -301,6 +310,9 @@ impl World {
             3 if is_wrong => 0,
             _ => view,
         };
+        node.over = node
+            .over
+            .max(if expired <= node.view { expired } else { 0 });
         driver.expire(expired);
         self.reached.note(Mark::Expired);
         self.may_end_epoch(it);

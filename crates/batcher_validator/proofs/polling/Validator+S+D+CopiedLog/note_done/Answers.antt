@@ -14,4 +14,4 @@ returns-clause-stays g c =
     (run_stays (config inside.voter.node) (record { voter = inside.voter; given = inside.given; shelf = inside.shelf })
     (record { voter = c.note_done.new.self; given = inside.given; shelf = inside.shelf })
     (ap (λ v. v.journal.contents) noted) (ap (λ v. v.journal.is_open) noted) inside.given.calm
-    refl refl refl refl c.note_done.ensures.stays)
+    inside.given.presence refl refl refl refl refl c.note_done.ensures.stays)

@@ -11,9 +11,9 @@ returns-in-Answered-Forged-clause-meets g c =
     runs x old c.stir.new.self
     (ap (λ v. v.journal.contents) c.stir.ensures.voter ∙ ap (λ j. j.contents) c.call_ahead.ensures.journal)
     (ap (λ v. v.journal.is_open) c.stir.ensures.voter ∙ ap (λ j. j.is_open) c.call_ahead.ensures.journal)
-    false (c.stir.ensures.given ∙ ap (λ (it : GivenView g.row.D.Denot). record it { calm = false }) c.call_ahead.ensures.given)
+    false old.given.presence (c.stir.ensures.given ∙ ap (λ (it : GivenView g.row.D.Denot). record it { calm = false }) c.call_ahead.ensures.given)
     (ap (λ s. s.certificates) (c.stir.ensures.shelf ∙ c.call_ahead.ensures.shelf))
     (ap (λ s. s.handed) (c.stir.ensures.shelf ∙ c.call_ahead.ensures.shelf)) event
-    (λ w. refl) (λ it held. absurd cc) (λ calm. absurd (never_calm calm))
+    (λ w. refl) (λ it held. absurd cc) (λ calm. absurd (never_calm calm)) (λ past earlier is. is.hears)
     (subst (λ v. VoterMeets x old.voter v event) (sym c.stir.ensures.voter)
     (c.call_ahead.ensures.forged (c.in-Answered-Forged.is ∙ ap (λ a. Answered a) c.in-Answered-Forged.field-0-is)))

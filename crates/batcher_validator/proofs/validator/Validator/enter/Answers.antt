@@ -1,20 +1,19 @@
-use Rattle.batcher_validator.proofs.Words.{ap, did, called, node_config, refl, view_entered}
-use Rattle.batcher_validator.proofs.Certifying.{config_same}
-use Rattle.batcher_validator.proofs.Going.{runs}
-use Rattle.batcher_validator.proofs.Settling.{meets_then_stays}
+use Rattle.batcher_validator.proofs.Words.{node_config, subst, sym, SameNode}
+use Rattle.batcher_voter.proofs.Certifying.{config_same}
+use Rattle.batcher_validator.proofs.Entering.{enters_so, enters_then_stays}
 use Rattle.batcher_validator.proofs.validator.Validator.enter.Goals as goal
 
 pub returns-in-Ok-clause-meets : goal.returns-in-Ok-clause-meets
 returns-in-Ok-clause-meets g c =
+    let config = node_config g.S.Scheme.meaning g.S.PublicKey.Ord.cmp g.S.Signature.PartialEq.eq g.D.PartialEq.eq in
     let old = c.args.self.now in
-    let mid = c.call_enter.new.self in
-    meets_then_stays
-    (node_config g.S.Scheme.meaning g.S.PublicKey.Ord.cmp g.S.Signature.PartialEq.eq g.D.PartialEq.eq)
-    old mid c.settle.new.self (did (called (view_entered c.args.view.0 c.args.leader)))
+    let call = c.call_enter in
+    let mid = c.note_entered.new.self in
+    enters_then_stays config old mid c.settle.new.self c.args.view.0 c.args.leader
     (config_same g.S.Scheme.meaning g.S.PublicKey.Ord.cmp g.S.Signature.PartialEq.eq g.D.PartialEq.eq
-    old.voter.node mid.voter.node c.call_enter.ensures.same)
-    (runs _ old mid c.call_enter.ensures.contents c.call_enter.ensures.open
-    old.given.calm c.call_enter.ensures.given (ap (λ s. s.certificates) c.call_enter.ensures.shelf)
-    (ap (λ s. s.handed) c.call_enter.ensures.shelf) (view_entered c.args.view.0 c.args.leader)
-    (λ w. refl) (λ it held. absurd cc) (λ calm. (calm, λ i. refl)) c.in-Ok.ensures.meets)
+    old.voter.node mid.voter.node (subst (λ v. SameNode old.voter.node v.node) (sym c.note_entered.ensures.voter) call.ensures.same))
+    (enters_so (config old.voter.node) old call.new.self mid call.ensures.contents call.ensures.open
+    call.ensures.given call.ensures.shelf c.note_entered.ensures.voter c.note_entered.ensures.shelf
+    c.args.view.0 c.args.leader c.gives_up-is_over.result c.note_entered.ensures.given c.in-Ok.ensures.meets
+    c.gives_up-is_over.ensures)
     c.settle.ensures.stays

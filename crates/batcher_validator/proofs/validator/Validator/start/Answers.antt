@@ -1,6 +1,7 @@
 use Rattle.batcher_validator.proofs.Words.{◌≡◌, ◌∙◌, ◌⊎◌, All, ap, length, subst, sym, certificate_format, JournalView, node_config, IsFinalView, IsTakenIn}
 use Rattle.batcher_validator.proofs.Words.{HasStarted}
-use Rattle.batcher_validator.proofs.Beginning.{begun, has_begun, none_resized}
+use Rattle.batcher_validator.proofs.Beginning.{begun, has_begun, none_resized, still_fresh}
+use Rattle.batcher_voter.proofs.Readable.{not_all_started}
 use Rattle.batcher_voter.proofs.Reopening.{all_taken_in, final_stays}
 use Rattle.batcher_validator.proofs.Words.{certifies_itself}
 use Rattle.batcher_voter.specs.Unstarted.{WhyNotStarted}
@@ -25,6 +26,11 @@ returns-in-Ok-recall-clause-running g c = λ earlier keeps has.
     ∙ ap (λ (j : JournalView g.row.S-Signature.Denot g.row.D.Denot g.row.L.Denot). j.contents.votes) (sym journal)))
     (none_resized _ _ c.new-blocked.result.items c.resize.new.self.items c.new-blocked.ensures.items
     c.in-Ok.ensures.items)
+    c.in-Ok-new.presence
+    (still_fresh c.in-Ok-new.presence c.in-Ok-new.ensures
+    (c.len-2.ensures.count ∙ ap length (c.participants-2.ensures
+    ∙ ap (λ s. (g.S.Scheme.meaning s).participants) (c.deref-2.ensures
+    ∙ sym (ap (λ v. v.node.scheme) c.of-validator.ensures.voter ∙ c.in-Ok-start.ensures.scheme)))))
     c.of-validator.ensures.given c.of-validator.ensures.empty c.of-validator.ensures.handed started)
     c.in-Ok-recall.ensures.recalls c.recall.ensures.node c.recall.ensures.journal
 
@@ -51,8 +57,10 @@ pub returns-in-Err-recall-clause-why : goal.returns-in-Err-recall-clause-why
 returns-in-Err-recall-clause-why g c =
     let format = certificate_format g.S.Certificate.OwnedCodec.format g.D.Codec.format in
     let first = c.of-validator.result in
-    subst (λ s. WhyNotStarted format c.args.journal.contents (certifies_itself (g.S.Scheme.meaning s))
+    not_all_started format (certifies_itself (g.S.Scheme.meaning c.args.scheme.value)) c.args.journal
+    c.in-Err-recall.fault
+    (subst (λ s. WhyNotStarted format c.args.journal.contents (certifies_itself (g.S.Scheme.meaning s))
     c.in-Err-recall.fault) (ap (λ v. v.node.scheme) c.of-validator.ensures.voter ∙ c.in-Ok-start.ensures.scheme)
     (subst (λ j. WhyNotStarted format j.contents (certifies_itself (g.S.Scheme.meaning first.voter.node.scheme))
     c.in-Err-recall.fault) (ap (λ v. v.journal) c.of-validator.ensures.voter ∙ c.in-Ok-start.ensures.journal)
-    c.in-Err-recall.ensures.why)
+    c.in-Err-recall.ensures.why))

@@ -18,5 +18,5 @@ returns-in-Err-clause-stays g c =
     let call = c.learn_verified in
     run_stays (node_config g.S.Scheme.meaning g.S.PublicKey.Ord.cmp g.S.Signature.PartialEq.eq
     g.D.PartialEq.eq old.voter.node) old call.new.self call.ensures.contents call.ensures.open
-    old.given.calm call.ensures.given (ap (λ s. s.certificates) call.ensures.shelf)
-    (ap (λ s. s.handed) call.ensures.shelf) refl c.in-Err.ensures.stays
+    old.given.calm old.given.presence call.ensures.given (ap (λ s. s.certificates) call.ensures.shelf)
+    (ap (λ s. s.handed) call.ensures.shelf) refl refl c.in-Err.ensures.stays

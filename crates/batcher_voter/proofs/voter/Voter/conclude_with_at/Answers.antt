@@ -1,4 +1,5 @@
-use Rattle.batcher_voter.proofs.Words.{◌∙◌, ap, subst, sym, subject_certified, constructed, node_config, NodeMeets, Learns}
+use Rattle.batcher_voter.proofs.Certifying.{given_by_node}
+use Rattle.batcher_voter.proofs.Words.{◌≡◌, ◌∙◌, ap, subst, sym, true, certifies_itself, subject_certified, constructed, node_config, NodeMeets, Learns}
 use Rattle.batcher_voter.proofs.Calling.{given_is_learned, given_is_of, learning}
 use Rattle.batcher_voter.proofs.voter.Voter.conclude_with_at.Goals as goal
 
@@ -29,3 +30,14 @@ learn-requires-clause-epoch g c =
     ap (λ r. r.epoch) (given_is_of old.epoch made.view.0 made.batch c.in-Some-certificate_in.certificate.now
     c.in-Some-certificate_in.ensures c.in-Some.ensures.of_view)
     ∙ sym c.begins.ensures.begins.of_epoch ∙ ap (λ k. k.epoch) (sym c.in-Some.ensures.knowledge)
+
+pub learn-requires-clause-certifies : goal.learn-requires-clause-certifies
+learn-requires-clause-certifies g c =
+    let made = c.in-Some.made in
+    let certificate = c.in-Some-certificate_in.certificate.now in
+    let same = c.in-Some.ensures.same in
+    subst (λ s. certifies_itself (g.S.Scheme.meaning s) certificate ≡ true) (sym same.0)
+    (given_by_node g.S.Scheme.meaning g.S.PublicKey.Ord.cmp g.S.Signature.PartialEq.eq g.D.PartialEq.eq
+    c.senders_of_votes_to_send_are_never_blocked.ensures.held_certify c.args.self.now.node
+    c.call_conclude_with.new.self.node same c.begins.ensures.some c.has_history.ensures made.view.0 made.batch certificate
+    c.in-Some.ensures.meets c.in-Some-certificate_in.ensures)

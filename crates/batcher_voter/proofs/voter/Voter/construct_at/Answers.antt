@@ -1,4 +1,5 @@
-use Rattle.batcher_voter.proofs.Words.{◌∙◌, ap, subst, sym, subject_certified, constructed, NodeMeets, Learns}
+use Rattle.batcher_voter.proofs.Words.{◌≡◌, ◌∙◌, ap, subst, sym, true, subject_certified, constructed, certifies_itself, NodeMeets, Learns}
+use Rattle.batcher_voter.proofs.Certifying.{given_by_node}
 use Rattle.batcher_voter.proofs.Calling.{given_is_learned, given_is_of, learning}
 use Rattle.batcher_voter.proofs.voter.Voter.construct_at.Goals as goal
 
@@ -25,3 +26,14 @@ learn-requires-clause-epoch g c =
     ap (λ r. r.epoch) (given_is_of c.args.self.now.node.epoch made.view.0 made.batch c.in-Some.certificate.now
     c.in-Some.ensures c.in-Ok.ensures.of_view)
     ∙ sym c.begins.ensures.begins.of_epoch ∙ ap (λ k. k.epoch) (sym c.in-Ok.ensures.knowledge)
+
+pub learn-requires-clause-certifies : goal.learn-requires-clause-certifies
+learn-requires-clause-certifies g c =
+    let made = c.in-Ok.made in
+    let certificate = c.in-Some.certificate.now in
+    let same = c.in-Ok.ensures.same in
+    subst (λ s. certifies_itself (g.S.Scheme.meaning s) certificate ≡ true) (sym same.0)
+    (given_by_node g.S.Scheme.meaning g.S.PublicKey.Ord.cmp g.S.Signature.PartialEq.eq g.D.PartialEq.eq
+    c.senders_of_votes_to_send_are_never_blocked.ensures.held_certify c.args.self.now.node c.call_construct.new.self.node
+    same c.begins.ensures.some c.has_history.ensures made.view.0 made.batch certificate c.in-Ok.ensures.meets
+    c.in-Some.ensures)

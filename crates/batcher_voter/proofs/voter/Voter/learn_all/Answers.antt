@@ -1,4 +1,4 @@
-use Rattle.batcher_voter.proofs.Words.{All, subst, certificate_format, certifies_itself, IsTakenIn, WhyNotStarted}
+use Rattle.batcher_voter.proofs.Words.{All, subst, certificate_format, certifies_itself, sym, AreReadable, IsTakenIn, WhyNotStarted}
 use Rattle.batcher_voter.proofs.voter.Voter.learn_all.Goals as goal
 
 pub returns-in-Ok-learn_kept-clause-kept : goal.returns-in-Ok-learn_kept-clause-kept
@@ -21,3 +21,15 @@ returns-in-Err-learn_kept-clause-why g c =
     c.in-Err-learn_kept.fault) c.in-Ok.ensures.node
     (subst (λ j. WhyNotStarted format j.contents (certifies_itself (g.S.Scheme.meaning mid.node.scheme))
     c.in-Err-learn_kept.fault) c.in-Ok.ensures.journal c.in-Err-learn_kept.ensures.why)
+
+pub learn_kept-requires : goal.learn_kept-requires
+learn_kept-requires g c =
+    let format = certificate_format g.S.Certificate.OwnedCodec.format g.D.Codec.format in
+    let old = c.args.self.now in
+    let mid = c.learn_floor.new.self in
+    record {
+      readable = subst (λ n. AreReadable format mid.journal.contents (certifies_itself (g.S.Scheme.meaning n.scheme)))
+          (sym c.in-Ok.ensures.node)
+          (subst (λ j. AreReadable format j.contents (certifies_itself (g.S.Scheme.meaning old.node.scheme)))
+          (sym c.in-Ok.ensures.journal) c.requires.readable);
+    }

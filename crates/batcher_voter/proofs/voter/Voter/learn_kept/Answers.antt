@@ -1,5 +1,5 @@
 use Rattle.batcher_voter.proofs.Words.{◌<◌, ◌∙◌, ap, length, slice_index_or, subst, sym, certificate_format, certifies_itself, node_config}
-use Rattle.batcher_voter.proofs.Words.{IsTakenIn, HasStarted, WhyNotStarted}
+use Rattle.batcher_voter.proofs.Words.{IsTakenIn, HasStarted, WhyNotStarted, AreReadable}
 use Rattle.batcher_voter.proofs.Reopening.{one_more}
 use Rattle.batcher_voter.proofs.voter.Voter.learn_kept.Goals as goal
 
@@ -38,8 +38,17 @@ loop-i-preserved g c =
       ),
     )
 
-pub learn_at-requires : goal.learn_at-requires
-learn_at-requires g c =
+pub learn_at-requires-clause-readable : goal.learn_at-requires-clause-readable
+learn_at-requires-clause-readable g c =
+    let format = certificate_format g.S.Certificate.OwnedCodec.format g.D.Codec.format in
+    let before = c.loop-i.invariant in
+    subst (λ n. AreReadable format c.loop-i.self.journal.contents (certifies_itself (g.S.Scheme.meaning n.scheme)))
+    (sym before.1.1.1.0)
+    (subst (λ j. AreReadable format j.contents (certifies_itself (g.S.Scheme.meaning c.args.self.now.node.scheme)))
+    (sym before.1.1.1.1) c.requires.readable)
+
+pub learn_at-requires-clause-within : goal.learn_at-requires-clause-within
+learn_at-requires-clause-within g c =
     subst (λ j. c.loop-i.i < length j.contents.certificates) (sym c.loop-i.invariant.1.1.1.1)
     (subst (λ xs. c.loop-i.i < length xs) (c.certificates-i-end.ensures
     ∙ ap (λ v. v.journal.contents.certificates) c.self.view_is) c.loop-i-test.true)

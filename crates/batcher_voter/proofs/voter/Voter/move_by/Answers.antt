@@ -1,4 +1,4 @@
-use Rattle.batcher_voter.proofs.Words.{◌≡◌, ◌≤◌, ◌++◌, ◌∙◌, certificate_format, versioned, IsFinalOf, IsSafelyKept, ap, false, subst, sym, round_in}
+use Rattle.batcher_voter.proofs.Words.{◌≡◌, ◌≤◌, ◌∙◌, certificate_format, versioned, whole, IsFinalOf, Ok, IsSafelyKept, ap, false, subst, sym, round_in}
 use Rattle.batcher_voter.proofs.Words.{subject_certified, is_below, raised, view_finalized, node_config, NodeMeets}
 use Rattle.batcher_voter.proofs.Words.{Forgets, Learns}
 use Rattle.batcher_voter.proofs.Words.{Err, vote_format, IsTooLongFor}
@@ -69,9 +69,7 @@ move_to-requires-clause-finalizes g c =
       proposal = final.0;
       final = final.1;
       of_round = ap (λ s. round_in s) (sym final.1) ∙ sym c.round.ensures;
-      encoded = c.deref.ensures.value ∙ c.in-Ok.ensures.ok
-          ∙ ap (λ before. before ++ (versioned (certificate_format g.S.Certificate.OwnedCodec.format g.D.Codec.format)).encoding
-          c.args.finalization.now) c.new-bytes.ensures.items;
+      encoded = c.deref.ensures.value ∙ c.in-Ok.ensures.bytes;
     }
 
 pub note-requires-clause-kept : goal.note-requires-clause-kept
@@ -85,8 +83,7 @@ note-requires-clause-kept g c =
     (λ from. safely_on_disk format moved.journal c.args.finalization.now moved.waits
     (final_on_disk format moved.journal.contents c.args.finalization.now final.0 final.1
     (ap (λ k. k.floor) raised ∙ c.round.ensures)
-    (ap (λ k. k.finalization) raised ∙ c.deref.ensures.value ∙ c.in-Ok.ensures.ok
-    ∙ ap (λ before. before ++ (versioned format).encoding c.args.finalization.now) c.new-bytes.ensures.items)))
+    (ap (λ k. k.finalization) raised ∙ c.deref.ensures.value ∙ c.in-Ok.ensures.bytes)))
 
 pub returns-in-Err-Full-clause-too_long : goal.returns-in-Err-Full-clause-too_long
 returns-in-Err-Full-clause-too_long g c = λ is.
@@ -95,8 +92,21 @@ returns-in-Err-Full-clause-too_long g c = λ is.
     subst (λ bytes. IsTooLongFor (vote_format g.S.Signature.Codec.format g.D.Codec.format) g.L.Log.is_too_small old.journal.log
     (raised old.journal.contents old.journal.unwritten old.journal.contents.owner
     (round_in (subject_certified c.args.finalization.now)) bytes))
-    (c.deref.ensures.value ∙ c.in-Ok.ensures.ok
-    ∙ ap (λ before. before ++ (versioned format).encoding c.args.finalization.now) c.new-bytes.ensures.items)
+    (c.deref.ensures.value ∙ c.in-Ok.ensures.bytes)
     (subst (λ r. IsTooLongFor (vote_format g.S.Signature.Codec.format g.D.Codec.format) g.L.Log.is_too_small old.journal.log
     (raised old.journal.contents old.journal.unwritten old.journal.contents.owner r c.deref.result.now)) c.round.ensures
     (c.in-Err-Full.ensures.too_long (ap (λ e. Err e) c.in-Err-Full.field-0-is)))
+
+pub move_to-requires-clause-readable : goal.move_to-requires-clause-readable
+move_to-requires-clause-readable g c =
+    let format = certificate_format g.S.Certificate.OwnedCodec.format g.D.Codec.format in
+    record {
+      certificate = c.args.finalization.now;
+      read = record {
+        decoded = subst (λ bytes. whole (versioned format) bytes ≡ Ok c.args.finalization.now) (sym c.deref.ensures.value)
+            c.in-Ok.ensures.read;
+        of_round = sym c.round.ensures;
+      };
+      final = c.requires.kind;
+      certifies_it = c.requires.certifies;
+    }

@@ -19,7 +19,10 @@ invariant_of-self g c =
           from_final = learns.floor ∙ was.1.0.from_final;
           floor_is = was.1.0.floor_is;
         },
-        learned_keeps format inside.journal s inside.knowledge c.learn.new.self inside.waits inside.waits learns epoch
-            (λ t waiting. waiting) kept was.1.1,
+        (
+          learned_keeps format inside.journal s inside.knowledge c.learn.new.self inside.waits inside.waits learns epoch
+              (λ t waiting. waiting) kept was.1.1.0,
+          was.1.1.1,
+        ),
       ),
     )

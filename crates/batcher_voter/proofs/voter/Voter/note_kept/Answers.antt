@@ -15,6 +15,9 @@ invariant_of-self g c =
           from_final = was.1.0.from_final;
           floor_is = was.1.0.floor_is;
         },
-        done_keeps format c.self.inside.journal c.self.inside.knowledge c.self.inside.waits done was.1.1,
+        (
+          done_keeps format c.self.inside.journal c.self.inside.knowledge c.self.inside.waits done was.1.1.0,
+          was.1.1.1,
+        ),
       ),
     )

@@ -18,8 +18,11 @@ invariant_of-self g c =
           from_final = learns.floor ∙ was.1.0.from_final;
           floor_is = was.1.0.floor_is;
         },
-        learned_keeps format inside.journal s inside.knowledge c.learn.new.self inside.waits (Some s) learns epoch
-            (λ t waiting. none_waits s t (subst (λ o. WaitsFor o t) none waiting))
-            (λ from is_open t does same. inr (waits_itself s t does)) was.1.1,
+        (
+          learned_keeps format inside.journal s inside.knowledge c.learn.new.self inside.waits (Some s) learns epoch
+              (λ t waiting. none_waits s t (subst (λ o. WaitsFor o t) none waiting))
+              (λ from is_open t does same. inr (waits_itself s t does)) was.1.1.0,
+          was.1.1.1,
+        ),
       ),
     )

@@ -1,6 +1,7 @@
 use Rattle.batcher_voter.proofs.Words.{◌≡◌, ◌⊎◌, All, subst, sym, certificate_format, node_config, Remembers, IsFinalView, IsTakenIn, HasStarted}
-use Rattle.batcher_voter.proofs.Words.{certifies_itself, WhyNotStarted}
+use Rattle.batcher_voter.proofs.Words.{certifies_itself, AreReadable, WhyNotStarted}
 use Rattle.batcher_voter.proofs.Beginning.{begun}
+use Rattle.batcher_voter.proofs.Readable.{not_all_started}
 use Rattle.batcher_voter.proofs.voter.Voter.start.Goals as goal
 
 pub returns-in-Ok-learn_all-clause-voting : goal.returns-in-Ok-learn_all-clause-voting
@@ -33,7 +34,18 @@ pub returns-in-Err-learn_all-clause-why : goal.returns-in-Err-learn_all-clause-w
 returns-in-Err-learn_all-clause-why g c =
     let format = certificate_format g.S.Certificate.OwnedCodec.format g.D.Codec.format in
     let first = c.in-Ok.voter in
-    subst (λ s. WhyNotStarted format c.args.journal.contents (certifies_itself (g.S.Scheme.meaning s))
-    c.in-Err-learn_all.fault) c.in-Ok.ensures.scheme
-    (subst (λ j. WhyNotStarted format j.contents (certifies_itself (g.S.Scheme.meaning first.node.scheme))
-    c.in-Err-learn_all.fault) c.in-Ok.ensures.journal c.in-Err-learn_all.ensures.why)
+    let why = subst (λ j. WhyNotStarted format j.contents (certifies_itself (g.S.Scheme.meaning first.node.scheme))
+    c.in-Err-learn_all.fault) c.in-Ok.ensures.journal c.in-Err-learn_all.ensures.why in
+    not_all_started format (certifies_itself (g.S.Scheme.meaning c.args.scheme.value)) c.args.journal
+    c.in-Err-learn_all.fault
+    (subst (λ s. WhyNotStarted format c.args.journal.contents (certifies_itself (g.S.Scheme.meaning s))
+    c.in-Err-learn_all.fault) c.in-Ok.ensures.scheme why)
+
+pub learn_all-requires-clause-readable : goal.learn_all-requires-clause-readable
+learn_all-requires-clause-readable g c =
+    let format = certificate_format g.S.Certificate.OwnedCodec.format g.D.Codec.format in
+    let first = c.in-Ok.voter in
+    subst (λ s. AreReadable format first.journal.contents (certifies_itself (g.S.Scheme.meaning s)))
+    (sym c.in-Ok.ensures.scheme)
+    (subst (λ j. AreReadable format j.contents (certifies_itself (g.S.Scheme.meaning c.args.scheme.value)))
+    (sym c.in-Ok.ensures.journal) c.in-Ok.ensures.readable)

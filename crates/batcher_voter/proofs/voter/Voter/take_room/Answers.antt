@@ -13,6 +13,9 @@ invariant_of-self g c =
           from_final = same.floor ∙ was.1.0.from_final;
           floor_is = was.1.0.floor_is;
         },
-        λ is_open s here. was.1.1 is_open s (known_same s c.self.inside.knowledge c.make_room.new.self same here),
+        (
+          λ is_open s here. was.1.1.0 is_open s (known_same s c.self.inside.knowledge c.make_room.new.self same here),
+          was.1.1.1,
+        ),
       ),
     )

@@ -1,5 +1,6 @@
-use Rattle.batcher_voter.proofs.Words.{◌≡◌, ◌∙◌, subst, sym, true, certificate_format, vote_format, MayBeWrittenBehind, WriteLeaves}
+use Rattle.batcher_voter.proofs.Words.{◌≡◌, ◌∙◌, subst, sym, true, certificate_format, certifies_itself, vote_format, MayBeWrittenBehind, WriteLeaves}
 use Rattle.batcher_voter.proofs.Keeping.{after_write}
+use Rattle.batcher_voter.proofs.Readable.{readable_after_write}
 use Rattle.batcher_voter.proofs.voter.Voter.write_all.Goals as goal
 
 pub returns-clause-not_free : goal.returns-clause-not_free
@@ -19,7 +20,8 @@ pub invariant_of-self : goal.invariant_of-self
 invariant_of-self g c =
     let was = c.self.invariant in
     let it = c.write.ensures in
-    let stays = after_write (certificate_format g.S.Certificate.OwnedCodec.format g.D.Codec.format) c.self.inside.journal
+    let format = certificate_format g.S.Certificate.OwnedCodec.format g.D.Codec.format in
+    let stays = after_write format c.self.inside.journal
     c.write.new.self c.self.inside.knowledge c.self.inside.waits c.write.result c.args.votes.now _ _ _ it.written
     it.memory it.full it.not_free it.closed in (
       was.0,
@@ -29,6 +31,11 @@ invariant_of-self g c =
           from_final = was.1.0.from_final;
           floor_is = λ is_open. (stays.0 is_open).1 ∙ was.1.0.floor_is (stays.0 is_open).0;
         },
-        stays.1 was.1.1,
+        (
+          stays.1 was.1.1.0,
+          readable_after_write format (certifies_itself (g.S.Scheme.meaning c.self.inside.node.scheme))
+              c.self.inside.journal c.write.new.self c.write.result c.args.votes.now _ _ _ it.written it.memory it.full
+              it.not_free it.closed was.1.1.1,
+        ),
       ),
     )

@@ -1,8 +1,9 @@
 -- A certificate that a node recorded or gave certifies what it names.
-use Rattle.batcher_validator.proofs.Words.{◌≡◌, ◌≤◌, ◌∙◌, ℕ, Bool, true, false, ◌∷◌, List, Option, Some, None, ap, refl, subst, sym, All, IfSome, length}
-use Rattle.batcher_validator.proofs.Words.{option_and_then, recursion_from_All, Ordering, Meaning, certifies_itself, Certificate, Epoch, Batch, called, held_by}
-use Rattle.batcher_validator.proofs.Words.{NodeEvent, NodeHistory, certificate_came, constructed, NodeConfig, NodeView, SameNode, node_config, NodeRepresents}
-use Rattle.batcher_validator.proofs.Words.{HoldsCertified, Receipt, Answered, Dropped, Outside, Unknown, Verdict, Forged, Known, Recorded, was_recorded}
+use Rattle.batcher_voter.proofs.Words.{◌≡◌, ◌≤◌, ◌∙◌, ℕ, Bool, true, false, ◌∷◌, List, Option, Some, None, ap, refl, subst, sym, All, IfSome, length}
+use Rattle.batcher_voter.proofs.Words.{option_and_then, recursion_from_All, Ordering, Meaning, certifies_itself, Certificate, Epoch, Batch, called, held_by}
+use Rattle.batcher_voter.proofs.Words.{NodeEvent, NodeHistory, certificate_came, constructed, NodeConfig, NodeView, SameNode, node_config, NodeRepresents}
+use Rattle.batcher_voter.proofs.Words.{HasHistory, NodeMeets, Err, IfOk, Ok, OnErr, Result, HoldsCertified, Receipt, Answered, Dropped, Outside}
+use Rattle.batcher_voter.proofs.Words.{Unknown, Verdict, Forged, Known, Recorded, was_recorded}
 
 module _ {D K G C : Type 0} (x : NodeConfig D K G C) where
   given_certifies :
@@ -101,3 +102,44 @@ module _ {D C : Type 0} (K G : Type 0) where
   none_is_given view (Some batch) e c held =
       let differ : None ≡ Some c = sym e ∙ held in
       absurd cc
+
+module _ {S D K G C : Type 0} (meaning : S → Meaning D K G C) (compare_keys : K → K → Ordering)
+    (same_signature : G → G → Bool) (same_digest : D → D → Bool)
+    (held : (node : NodeView S G D) → 1 ≤ length (meaning node.scheme).participants
+    → (past : NodeHistory D K G C)
+    → NodeRepresents (config meaning compare_keys same_signature same_digest node) past node
+    → All (HoldsCertified (config meaning compare_keys same_signature same_digest node)) past)
+    (old new : NodeView S G D) (same : SameNode old new)
+    (some : 1 ≤ length (meaning old.scheme).participants)
+    (has : HasHistory (config meaning compare_keys same_signature same_digest old) old) where
+  abbrev meets : NodeEvent D K G C → Type 0
+  meets event = NodeMeets (config meaning compare_keys same_signature same_digest old) old event new
+
+  -- what is recorded,
+  pub recorded_certifies :
+      {E : Type 0} (result : Result (Receipt Verdict) E) (peer : K) (c : Certificate C D)
+      → IfOk result (λ receipt. meets (certificate_came peer c receipt))
+      → IfOk result (λ receipt. was_recorded receipt ≡ true
+      → certifies_itself (meaning old.scheme) c ≡ true)
+  recorded_certifies (Ok receipt) peer c met = λ yes.
+      certified meaning compare_keys same_signature same_digest held old new same some
+      (certificate_came peer c receipt) has.past (met has.past has.represents) c
+      (recorded_is_held K G peer c receipt yes)
+  recorded_certifies (Err fault) peer c met = tt
+
+  -- and what is given
+  pub given_by_node :
+      (view : ℕ) (o : Option (Batch (Certificate C D))) (c : Certificate C D)
+      → meets (constructed view o) → Some c ≡ option_and_then (λ batch. batch.certificate) o
+      → certifies_itself (meaning old.scheme) c ≡ true
+  given_by_node view o c met is =
+      certified meaning compare_keys same_signature same_digest held old new same some
+      (constructed view o) has.past (met has.past has.represents) c (given_is_held K G view o c (sym is))
+
+  pub window_stays :
+      {E : Type 0} (result : Result (Receipt Verdict) E) (peer : K) (c : Certificate C D)
+      → IfOk result (λ receipt. meets (certificate_came peer c receipt))
+      → OnErr result (new ≡ old) → new.window ≡ old.window
+  window_stays (Ok receipt) peer c met err =
+      (met has.past has.represents).window_is ∙ sym has.represents.window_is
+  window_stays (Err fault) peer c met err = ap (λ (n : NodeView S G D). n.window) err
