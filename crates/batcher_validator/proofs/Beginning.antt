@@ -127,6 +127,7 @@ module _ {S D K G C L : Type 0} (x : NodeConfig D K G C) (validator : ValidatorV
         begins = λ opened. rw (given, all) (first_all (has.voting.remembers opened));
         casts = λ opened. rw (given) (first_none _ _ _ _ (λ s was. was));
         kept = record {
+          had = λ c there. absurd (none_contained validator.shelf.certificates empty c there);
           certify = λ c there. absurd (none_contained validator.shelf.certificates empty c there);
           looked_at = λ c there. absurd (none_contained validator.shelf.certificates empty c there);
           are_there = λ c counts. absurd counts.had;
@@ -170,6 +171,8 @@ has_begun config format old new earlier me owns has running recalls node journal
       held = recalls.held;
       has_all = λ c on_disk. recalls.has_all c
           (subst (λ j. HasCertificate format j.contents c) journal on_disk);
+      no_others = λ c within. subst (λ j. HasCertificate format j.contents c) (sym journal)
+          (recalls.no_others c within);
       running = subst (λ n. IsRunning (config n) (only_took recalls.held ++ began me has.past ∷ []) earlier new) (sym node)
           (recalls.running (began me has.past ∷ []) earlier running);
       asked_nothing = subst (λ n. node_history has.past ≡ started n.window ∷ []) (sym node)

@@ -40,7 +40,7 @@ module _ {S D K G C L : Type 0} (x : NodeConfig D K G C) (old new : ValidatorVie
           resends = rw (given) is.resends;
           begins = rw (voter, given) is.begins;
           casts = rw (voter, given) is.casts;
-          kept = rw (shelf) (kept_still x past (chose p ∷ past) refl old.shelf.certificates (λ c had. had) is.kept);
+          kept = rw (shelf) (kept_still x past (chose p ∷ past) refl old.shelf.certificates (λ c had. had) (λ c had. had) is.kept);
           certificates = rw (shelf) is.certificates;
           asks = rw (given) is.asks;
           verifies = rw (given) is.verifies;
@@ -74,7 +74,7 @@ module _ {S D K G C L : Type 0} (x : NodeConfig D K G C) (old new : ValidatorVie
           resends = rw (given) is.resends;
           begins = rw (voter, given) is.begins;
           casts = rw (voter, given) is.casts;
-          kept = rw (shelf) (kept_still x past (expired view ∷ past) refl old.shelf.certificates (λ c had. had) is.kept);
+          kept = rw (shelf) (kept_still x past (expired view ∷ past) refl old.shelf.certificates (λ c had. had) (λ c had. had) is.kept);
           certificates = rw (shelf) is.certificates;
           asks = rw (given) is.asks;
           verifies = rw (given) is.verifies;
@@ -108,7 +108,7 @@ module _ {S D K G C L : Type 0} (x : NodeConfig D K G C) (old new : ValidatorVie
           resends = rw (given) is.resends;
           begins = rw (voter, given) is.begins;
           casts = rw (voter, given) is.casts;
-          kept = rw (shelf) (kept_still x past (gave_up view ∷ past) refl old.shelf.certificates (λ c had. had) is.kept);
+          kept = rw (shelf) (kept_still x past (gave_up view ∷ past) refl old.shelf.certificates (λ c had. had) (λ c had. had) is.kept);
           certificates = rw (shelf) is.certificates;
           asks = rw (given) is.asks;
           verifies = rw (given) is.verifies;
@@ -142,7 +142,7 @@ module _ {S D K G C L : Type 0} (x : NodeConfig D K G C) (old new : ValidatorVie
           resends = rw (given) is.resends;
           begins = rw (voter, given) is.begins;
           casts = rw (voter, given) is.casts;
-          kept = rw (shelf) (kept_still x past (refused s ∷ past) refl old.shelf.certificates (λ c had. had) is.kept);
+          kept = rw (shelf) (kept_still x past (refused s ∷ past) refl old.shelf.certificates (λ c had. had) (λ c had. had) is.kept);
           certificates = rw (shelf) is.certificates;
           asks = rw (given) is.asks;
           verifies = rw (given) is.verifies;
@@ -174,7 +174,7 @@ module _ {S D K G C L : Type 0} (x : NodeConfig D K G C) (old new : ValidatorVie
           resends = rw (given) is.resends;
           begins = rw (voter, given) is.begins;
           casts = rw (voter, given) is.casts;
-          kept = rw (shelf) (kept_still x past (gave (Sign s) ∷ past) refl old.shelf.certificates (λ c had. had) is.kept);
+          kept = rw (shelf) (kept_still x past (gave (Sign s) ∷ past) refl old.shelf.certificates (λ c had. had) (λ c had. had) is.kept);
           certificates = rw (shelf) is.certificates;
           asks = rw (given) is.asks;
           verifies = rw (given) is.verifies;
@@ -207,7 +207,7 @@ module _ {S D K G C L : Type 0} (x : NodeConfig D K G C) (old new : ValidatorVie
           resends = rw (given) is.resends;
           begins = rw (voter, given) is.begins;
           casts = rw (voter, given) is.casts;
-          kept = rw (shelf) (kept_still x past (gave (Propose view parent) ∷ past) refl old.shelf.certificates (λ c had. had) is.kept);
+          kept = rw (shelf) (kept_still x past (gave (Propose view parent) ∷ past) refl old.shelf.certificates (λ c had. had) (λ c had. had) is.kept);
           certificates = rw (shelf) is.certificates;
           asks = rw (given) is.asks;
           verifies = rw (given) is.verifies;
@@ -239,7 +239,7 @@ module _ {S D K G C L : Type 0} (x : NodeConfig D K G C) (old new : ValidatorVie
           resends = rw (given) is.resends;
           begins = rw (voter, given) is.begins;
           casts = rw (voter, given) is.casts;
-          kept = rw (shelf) (kept_still x past (gave (Judge p) ∷ past) refl old.shelf.certificates (λ c had. had) is.kept);
+          kept = rw (shelf) (kept_still x past (gave (Judge p) ∷ past) refl old.shelf.certificates (λ c had. had) (λ c had. had) is.kept);
           certificates = rw (shelf) is.certificates;
           asks = rw (given) is.asks;
           verifies = rw (given) is.verifies;

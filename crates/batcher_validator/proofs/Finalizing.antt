@@ -52,6 +52,9 @@ module _ {S D K G C L : Type 0} (x : NodeConfig D K G C) (old new : ValidatorVie
       had d (inr (inl held)) = inl (ap (λ o. unwrap_or o c) held)
       had d (inr (inr before)) = inr before
 
+      more : (d : Certificate C D) → HasHad past d → HasHad Before d
+      more d was = inr (inr was)
+
       moved : IsRunning x Before earlier Moved
       moved =
           goes_on x old Moved (called (view_finalized p.round.view.0) ∷ verified c ∷ []) past earlier
@@ -63,8 +66,8 @@ module _ {S D K G C L : Type 0} (x : NodeConfig D K G C) (old new : ValidatorVie
           ))
           (λ yes. (yes, λ i. or_none (cause_in x (calls_in past) i)))
           old.given.presence is.hears refl
-          (rw (certificates) (kept_from x past Before p.round.view.0 refl up c had old.shelf.certificates there is.kept))
-          (rw (certificates, handed) (first_from x past Before p.round.view.0 refl up c had old.shelf.certificates
+          (rw (certificates) (kept_from x past Before p.round.view.0 refl up c had more old.shelf.certificates there is.kept))
+          (rw (certificates, handed) (first_from x past Before p.round.view.0 refl up c had more old.shelf.certificates
           there (λ key. HasHanded past key) old.shelf.handed is.certificates))
 
       -- what counted before and is of a lower view was given as final
@@ -103,6 +106,7 @@ module _ {S D K G C L : Type 0} (x : NodeConfig D K G C) (old new : ValidatorVie
               (
                 record {
                   certificate = c;
+                  had = inr (inl refl);
                   is_of = is_of;
                   certifies = is.kept.certify c there;
                 },
@@ -130,7 +134,7 @@ module _ {S D K G C L : Type 0} (x : NodeConfig D K G C) (old new : ValidatorVie
             resends = rw (given) moved.resends;
             begins = λ opened. rw (given) (moved.begins opened);
             casts = λ opened. rw (given) (moved.casts opened);
-            kept = kept_still x Before (gave (Final p) ∷ Before) refl new.shelf.certificates (λ d h. h) moved.kept;
+            kept = kept_still x Before (gave (Final p) ∷ Before) refl new.shelf.certificates (λ d h. h) (λ d h. h) moved.kept;
             certificates = moved.certificates;
             asks = rw (given) moved.asks;
             verifies = rw (given) moved.verifies;
@@ -162,7 +166,7 @@ not_announced x old new given shelf stays still past earlier is =
     ))
     (λ yes. (yes, λ i. refl))
     old.given.presence is.hears given
-    (rw (shelf) (kept_still x past past refl old.shelf.certificates (λ d h. h) is.kept))
+    (rw (shelf) (kept_still x past past refl old.shelf.certificates (λ d h. h) (λ d h. h) is.kept))
     (rw (shelf) is.certificates)
 
 -- and it refuses that for memory and the disk alone.

@@ -122,7 +122,7 @@ module _ {S D K G C L : Type 0} (x : NodeConfig D K G C) (old new : ValidatorVie
           begins = rw (voter, given) is.begins;
           casts = rw (voter, given) is.casts;
           kept = rw (shelf) (kept_still x past (gave (SendVote vote) ∷ past) refl old.shelf.certificates
-              (λ c had. had) is.kept);
+              (λ c had. had) (λ c had. had) is.kept);
           certificates = rw (shelf) is.certificates;
           asks = rw (given) is.asks;
           verifies = rw (given) is.verifies;
@@ -180,7 +180,7 @@ module _ {S D K G C L : Type 0} (x : NodeConfig D K G C) (old new : ValidatorVie
               votes count first (λ s. HasRecast (gave (Cast vote) ∷ past) s) vote there
               (inl refl) (λ s was. inr was) (λ s was. was));
           kept = rw (shelf) (kept_still x past (gave (Cast vote) ∷ past) refl old.shelf.certificates
-              (λ c had. had) is.kept);
+              (λ c had. had) (λ c had. had) is.kept);
           certificates = rw (shelf) is.certificates;
           asks = rw (given) is.asks;
           verifies = rw (given) is.verifies;
@@ -210,7 +210,12 @@ module _ {S D K G C L : Type 0} (x : NodeConfig D K G C) (old new : ValidatorVie
         voting = rw (voter) is.voting;
         in_turn = (
           (
-            record { certificate = c; is_of = it.is_of; certifies = is.kept.certify c in_shelf },
+            record {
+              certificate = c;
+              had = is.kept.had c in_shelf;
+              is_of = it.is_of;
+              certifies = is.kept.certify c in_shelf;
+            },
             (
               λ was. not_given kind_and_round (is_before_view first) (λ key. HasHanded past key) old.shelf.certificates
                   old.shelf.handed is.certificates c
@@ -259,7 +264,7 @@ module _ {S D K G C L : Type 0} (x : NodeConfig D K G C) (old new : ValidatorVie
       in_shelf = contained old.shelf.certificates old.shelf.handed c it.there
 
       is_kept : AreKept x (gave (SendCertificate kind number) ∷ past) old.shelf.certificates
-      is_kept = kept_still x past (gave (SendCertificate kind number) ∷ past) refl old.shelf.certificates (λ d had. had) is.kept
+      is_kept = kept_still x past (gave (SendCertificate kind number) ∷ past) refl old.shelf.certificates (λ d had. had) (λ d had. had) is.kept
 
   module _ (shelf : new.shelf ≡ old.shelf) where
     pub gives_block :
@@ -292,7 +297,7 @@ module _ {S D K G C L : Type 0} (x : NodeConfig D K G C) (old new : ValidatorVie
           begins = rw (voter, given) is.begins;
           casts = rw (voter, given) is.casts;
           kept = rw (shelf) (kept_still x past (gave (Block who cause) ∷ past) refl old.shelf.certificates
-              (λ c had. had) is.kept);
+              (λ c had. had) (λ c had. had) is.kept);
           certificates = rw (shelf) is.certificates;
           asks = rw (given) is.asks;
           verifies = rw (given) is.verifies;
@@ -332,7 +337,7 @@ module _ {S D K G C L : Type 0} (x : NodeConfig D K G C) (old new : ValidatorVie
           begins = rw (voter, given) is.begins;
           casts = rw (voter, given) is.casts;
           kept = rw (shelf) (kept_still x past (gave (Enter view) ∷ past) refl old.shelf.certificates
-              (λ c had. had) is.kept);
+              (λ c had. had) (λ c had. had) is.kept);
           certificates = rw (shelf) is.certificates;
           asks = rw (given) record {
             were_asked = λ v some within. inl within;
@@ -379,7 +384,7 @@ module _ {S D K G C L : Type 0} (x : NodeConfig D K G C) (old new : ValidatorVie
           begins = rw (voter, given) is.begins;
           casts = rw (voter, given) is.casts;
           kept = rw (shelf) (kept_still x past (gave Verify ∷ past) refl old.shelf.certificates
-              (λ c had. had) is.kept);
+              (λ c had. had) (λ c had. had) is.kept);
           certificates = rw (shelf) is.certificates;
           asks = rw (given) is.asks;
           verifies = rw (given) tt;
@@ -410,7 +415,7 @@ module _ {S D K G C L : Type 0} (x : NodeConfig D K G C) (old new : ValidatorVie
           begins = rw (voter, given) is.begins;
           casts = rw (voter, given) is.casts;
           kept = rw (shelf) (kept_still x past (gave (Forward number) ∷ past) refl old.shelf.certificates
-              (λ c had. had) is.kept);
+              (λ c had. had) (λ c had. had) is.kept);
           certificates = rw (shelf) is.certificates;
           asks = rw (given) is.asks;
           verifies = rw (given) is.verifies;
@@ -438,7 +443,7 @@ module _ {S D K G C L : Type 0} (x : NodeConfig D K G C) (old new : ValidatorVie
           resends = rw (given) is.resends;
           begins = rw (voter, given) is.begins;
           casts = rw (voter, given) is.casts;
-          kept = rw (shelf) (kept_still x past (answered ∷ past) refl old.shelf.certificates (λ c had. had) is.kept);
+          kept = rw (shelf) (kept_still x past (answered ∷ past) refl old.shelf.certificates (λ c had. had) (λ c had. had) is.kept);
           certificates = rw (shelf) is.certificates;
           asks = rw (given) is.asks;
           verifies = rw (given) (λ no. no);

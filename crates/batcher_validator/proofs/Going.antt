@@ -32,6 +32,12 @@ module _ {D K G C : Type 0} (Was Is : ValidatorHistory D K G C → Type 0)
   from_more (event ∷ more) past was = from_more more past ((same event (only_did more ++ past)).1 was)
 
 module _ {D K G C : Type 0} where
+  pub had_more :
+      (more : VoterHistory D K G C) (past : ValidatorHistory D K G C) (c : Certificate C D)
+      → HasHad past c → HasHad (only_did more ++ past) c
+  had_more [] past c was = was
+  had_more (event ∷ more) past c was = inr (had_more more past c was)
+
   pub voter_history_more :
       (more : VoterHistory D K G C) (past : ValidatorHistory D K G C)
       → voter_history (only_did more ++ past) ≡ more ++ voter_history past
@@ -305,7 +311,7 @@ module _ {S D K G C L : Type 0} (x : NodeConfig D K G C) (old new : ValidatorVie
     goes more past earlier window had quiet hears is voting =
         goes_on x old new more past earlier (λ n. n) is voting recounts_still quiet presence hears given
         (subst (AreKept x (only_did more ++ past)) (sym shelf)
-        (kept_still x past (only_did more ++ past) window old.shelf.certificates had is.kept))
+        (kept_still x past (only_did more ++ past) window old.shelf.certificates had (had_more more past) is.kept))
         (rw (shelf, handed, window) is.certificates)
 
     pub runs :
@@ -368,7 +374,7 @@ module _ {S D K G C L : Type 0} (x : NodeConfig D K G C) (old mid new : Validato
       (calms_by x event past old.given.calm calm nobody)
       presence (hears past earlier is) given
       (kept_with x past (did (called event) ∷ past) (quiet (window_by past)) c (certifies past earlier voting)
-      old.shelf.certificates new.shelf.certificates had is.kept shelved)
+      old.shelf.certificates new.shelf.certificates had (inl held) (λ d was. inr was) is.kept shelved)
       (rw (handed, shelf, quiet (window_by past)) (first_with x.epoch (window_by past).finalized c
       old.shelf.certificates new.shelf.certificates (is_before_view (window_by past).finalized)
       (λ key. HasHanded past key) old.shelf.handed shelved is.certificates))))
@@ -501,7 +507,7 @@ module _ {S D K G C L : Type 0} (x : NodeConfig D K G C) (old mid new : Validato
         (recounts_still x old Calm contents is_open old.given.calm old.given.presence refl)
         {calm = old.given.calm} (λ yes. (yes, λ i. refl)) old.given.presence is.hears refl
         (kept_with x past Verified refl c certifies old.shelf.certificates new.shelf.certificates
-        had is.kept shelved_here)
+        had (inl refl) (λ d was. inr was) is.kept shelved_here)
         (rw (handed, shelf) (first_with x.epoch (window_by past).finalized c
         old.shelf.certificates new.shelf.certificates (is_before_view (window_by past).finalized)
         (λ key. HasHanded past key) old.shelf.handed shelved_here is.certificates))
@@ -524,7 +530,7 @@ module _ {S D K G C L : Type 0} (x : NodeConfig D K G C) (old mid new : Validato
           begins = learned_here.begins;
           casts = learned_here.casts;
           kept = kept_still x Verified (took c ∷ Verified) refl new.shelf.certificates had
-              learned_here.kept;
+              (λ d was. inr was) learned_here.kept;
           certificates = learned_here.certificates;
           asks = learned_here.asks;
           verifies = learned_here.verifies;

@@ -50,9 +50,11 @@ module _ {D K G C : Type 0} (x : NodeConfig D K G C) (past after : ValidatorHist
   -- nothing came,
   pub kept_still :
       (kept : List (Certificate C D)) → ((c : Certificate C D) → HasHad after c → HasHad past c)
+      → ((c : Certificate C D) → HasHad past c → HasHad after c)
       → AreKept x past kept → AreKept x after kept
-  kept_still kept had are =
+  kept_still kept had more are =
       record {
+        had = λ c there. more c (are.had c there);
         certify = are.certify;
         looked_at = λ c there. subst (λ first. IsLookedAt x.epoch first c) (sym window) (are.looked_at c there);
         are_there = λ c counts. are.are_there c (record {
@@ -65,17 +67,23 @@ module _ {D K G C : Type 0} (x : NodeConfig D K G C) (past after : ValidatorHist
   module _ (c : Certificate C D) (certifies : certifies_itself x.meaning c ≡ true)
       (old new : List (Certificate C D))
       (had : (d : Certificate C D) → HasHad after d → (c ≡ d) ⊎ HasHad past d)
+      (taken : HasHad after c) (more : (d : Certificate C D) → HasHad past d → HasHad after d)
       (are : AreKept x past old) where
     kept_taken :
         IsLookedAt x.epoch (window_by past).finalized c → ShelvesOne c old new → AreKept x after new
     kept_taken looked_at takes =
         record {
+          had = λ d there. had_there d (there_before c old new takes d there);
           certify = λ d there. of_there d (there_before c old new takes d there);
           looked_at = λ d there. subst (λ first. IsLookedAt x.epoch first d) (sym window)
               (seen d (there_before c old new takes d there));
           are_there = λ d counts. found d counts (had d counts.had);
         }
       where
+        had_there : (d : Certificate C D) → Contains old d ⊎ (c ≡ d) → HasHad after d
+        had_there d (inl before) = more d (are.had d before)
+        had_there d (inr is) = subst (λ e. HasHad after e) is taken
+
         of_there : (d : Certificate C D) → Contains old d ⊎ (c ≡ d)
             → certifies_itself x.meaning d ≡ true
         of_there d (inl before) = are.certify d before
@@ -99,6 +107,7 @@ module _ {D K G C : Type 0} (x : NodeConfig D K G C) (past after : ValidatorHist
         (IsLookedAt x.epoch (window_by past).finalized c → ⊥) → AreKept x after old
     kept_passed passed =
         record {
+          had = λ d there. more d (are.had d there);
           certify = are.certify;
           looked_at = λ d there. subst (λ first. IsLookedAt x.epoch first d) (sym window) (are.looked_at d there);
           are_there = λ d counts. found d
@@ -132,6 +141,7 @@ module _ {D K G C : Type 0} (x : NodeConfig D K G C) (past after : ValidatorHist
     (first : ℕ) (window : (window_by after).finalized ≡ max (window_by past).finalized first)
     (up : (window_by past).finalized ≤ first) (c : Certificate C D)
     (had : (d : Certificate C D) → HasHad after d → (c ≡ d) ⊎ HasHad past d)
+    (more : (d : Certificate C D) → HasHad past d → HasHad after d)
     (old : List (Certificate C D)) (there : Contains old c) where
   window_is : (window_by after).finalized ≡ first
   window_is = omega (arith, window, up)
@@ -139,6 +149,7 @@ module _ {D K G C : Type 0} (x : NodeConfig D K G C) (past after : ValidatorHist
   pub kept_from : AreKept x past old → AreKept x after (filter (is_from first) old)
   kept_from are =
       record {
+        had = λ d left. more d (are.had d (left_are (is_from first) old d left));
         certify = λ d left. are.certify d (left_are (is_from first) old d left);
         looked_at = λ d left. record {
           of_epoch = (are.looked_at d (left_are (is_from first) old d left)).of_epoch;

@@ -269,6 +269,7 @@ pub kept_behind :
     → IsPermutation old new → AreKept x past old → AreKept x (again ∷ past) new
 kept_behind {D = D} {C = C} x past old new moves are =
     record {
+      had = λ c there. are.had c (back c there);
       certify = λ c there. are.certify c (back c there);
       looked_at = λ c there. are.looked_at c (back c there);
       are_there = λ c counts. key_moved kind_and_round old new moves (kind_and_round c)

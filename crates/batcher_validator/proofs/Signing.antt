@@ -5,7 +5,7 @@ use Rattle.batcher_validator.proofs.Words.{AreSilent}
 use Rattle.batcher_validator.proofs.Words.{ForEachRun, IsRunning, RunCasts, RunMayWrite, RunWrites, ValidatorView, calls_in, HasHad, ValidatorHistory, only_did}
 use Rattle.batcher_validator.proofs.Words.{voter_history, window_by, MayGain, Casts, ForEachLife, IsVoting, IsWritten, MayWrite, WritesAndCalls}
 use Rattle.batcher_node.specs.declared.answers.Cast.{Cast}
-use Rattle.batcher_validator.proofs.Going.{goes_on, or_none, sent_gained}
+use Rattle.batcher_validator.proofs.Going.{goes_on, had_more, or_none, sent_gained}
 use Rattle.batcher_validator.proofs.Keeping.{kept_still}
 
 module _ {S D K G C L : Type 0} (x : NodeConfig D K G C) (old new : ValidatorView S G D L C)
@@ -29,7 +29,7 @@ module _ {S D K G C L : Type 0} (x : NodeConfig D K G C) (old new : ValidatorVie
       (λ yes. (yes, λ i. quiet i))
       old.given.presence hears given
       (subst (λ s. AreKept x (only_did more ++ past) s.certificates) (sym shelf)
-      (kept_still x past (only_did more ++ past) window old.shelf.certificates had is.kept))
+      (kept_still x past (only_did more ++ past) window old.shelf.certificates had (had_more more past) is.kept))
       (rw (shelf, window) is.certificates)
 
   module _ (outcome : Outcome) (report : Option (Activity G D)) where

@@ -9,11 +9,12 @@ use Rattle.batcher_node.specs.Nodes.{NodeConfig}
 use Rattle.batcher_validator.specs.Histories.{only_took}
 use Rattle.batcher_validator.specs.Running.{ForEachRun, IsRunning, ValidatorView}
 
--- It takes certificates in, and each of these among them.
+-- It takes certificates in: each of these, and no others.
 pub record Recalls {S D K G C L : Type 0} (x : NodeConfig D K G C)
     (IsThere : Certificate C D → Type 0) (old new : ValidatorView S G D L C) : Type 0 where
   pub held : List (Certificate C D)
   pub has_all : (c : Certificate C D) → IsThere c → Contains held c
+  pub no_others : (c : Certificate C D) → Contains held c → IsThere c
   pub running : ForEachRun x old (λ past earlier. IsRunning x (only_took held ++ past) earlier new)
 
 -- what is kept at this place has the bytes of a certificate

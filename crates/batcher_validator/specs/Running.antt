@@ -41,7 +41,7 @@ use Rattle.batcher_validator.specs.Absence.{entering, silence_of}
 use Rattle.batcher_validator.specs.Decisions.{AreDecided}
 use Rattle.batcher_validator.specs.Shelves.{IsLookedAt, ShelfView, kind_and_round}
 use Rattle.batcher_validator.specs.Histories.{HadVoted, HasAnnouncedFrom, HasAskedFrom, HasBlocked}
-use Rattle.batcher_validator.specs.Histories.{HasHanded, HasRecast, HasSent, HasSentOnce}
+use Rattle.batcher_validator.specs.Histories.{HasHad, HasHanded, HasRecast, HasSent, HasSentOnce}
 use Rattle.batcher_validator.specs.Histories.{IsVerifying, ValidatorEvent, ValidatorHistory}
 use Rattle.batcher_validator.specs.Histories.{answered, began, calls_in}
 use Rattle.batcher_validator.specs.Histories.{chosen_in, conduct_in, did, expired_in, gave}
@@ -177,10 +177,12 @@ AreFirstVotesBut validator is_exempt WasGiven count =
     (λ s. is_exempt s || is_over_for validator.voter.journal.contents.floor s) WasGiven
     validator.voter.journal.contents.votes count
 
--- The certificates that are kept: they certify what they name, are of the epoch and of views from
--- the final one on, and of each that counts there is one of its kind and round.
+-- The certificates that are kept: each was had in this life, certifies what it names, and is of the
+-- epoch and of a view from the final one on, and of each that counts there is one of its kind and
+-- round.
 pub record AreKept {D K G C : Type 0} (x : NodeConfig D K G C) (past : ValidatorHistory D K G C)
     (kept : List (Certificate C D)) : Type 0 where
+  pub had : (c : Certificate C D) → Contains kept c → HasHad past c
   pub certify : (c : Certificate C D) → Contains kept c → certifies_itself x.meaning c ≡ true
   pub looked_at :
       (c : Certificate C D) → Contains kept c → IsLookedAt x.epoch (window_by past).finalized c
@@ -272,8 +274,8 @@ module _ {S D K G C L : Type 0} (x : NodeConfig D K G C) where
     pub decides : AreDecided (conduct_in earlier past) x.epoch validator.given.decided
     pub hears : AreSilent x past validator.given.presence
 
-  -- A validator that was made from its journal took in what that has, gave nothing, and asked its
-  -- node nothing. It votes as whom the journal says.
+  -- A validator that was made from its journal took in what that has and nothing else. It gave
+  -- nothing, and asked its node nothing. It votes as whom the journal says.
   pub record HasBegun (format : Format (Certificate C D)) (earlier : Conduct D)
       (validator : ValidatorView S G D L C) : Type 0 where
     pub me : Participant
@@ -283,6 +285,9 @@ module _ {S D K G C L : Type 0} (x : NodeConfig D K G C) where
     pub has_all :
         (c : Certificate C D) → HasCertificate format validator.voter.journal.contents c
         → Contains held c
+    pub no_others :
+        (c : Certificate C D) → Contains held c
+        → HasCertificate format validator.voter.journal.contents c
     pub running : IsRunning (only_took held ++ began me past ∷ []) earlier validator
     pub asked_nothing : node_history past ≡ started validator.voter.node.window ∷ []
 

@@ -65,9 +65,10 @@ module _ {D K G C : Type 0} (x : NodeConfig D K G C) where
     pub had : HasHad past c
     pub looked_at : IsLookedAt x.epoch (window_by past).finalized c
 
-  -- a finalization of the proposal, which certifies it
-  pub record IsCertified (p : Proposal D) : Type 0 where
+  -- a finalization of the proposal that the validator had, which certifies it
+  pub record IsCertified (past : ValidatorHistory D K G C) (p : Proposal D) : Type 0 where
     pub certificate : Certificate C D
+    pub had : HasHad past certificate
     pub is_of : subject_certified certificate ≡ Finalize p
     pub certifies : certifies_itself x.meaning certificate ≡ true
 
@@ -79,9 +80,10 @@ module _ {D K G C : Type 0} (x : NodeConfig D K G C) where
       → subject_certified c ≡ Finalize q → 0 < q.round.view.0
       → (p.round.view.0 ≤ q.round.view.0) ⊎ HasAnnouncedFrom past q.round.view.0
 
-  -- a certificate of the kind and the round, which certifies what it names
-  pub record IsThere (kind : Kind) (number : Round) : Type 0 where
+  -- a certificate of the kind and the round that it had, which certifies what it names
+  pub record IsThere (past : ValidatorHistory D K G C) (kind : Kind) (number : Round) : Type 0 where
     pub certificate : Certificate C D
+    pub had : HasHad past certificate
     pub is_of : kind_and_round certificate ≡ (kind, number)
     pub certifies : certifies_itself x.meaning certificate ≡ true
 
@@ -153,9 +155,10 @@ module _ {D K G C : Type 0} (x : NodeConfig D K G C) where
     -- A participant gave cause to be blocked,
     MayGive past (Block who cause) =
         (cause_in x (calls_in past) who.0 ≡ Some cause) × (HasBlocked past who.0 → ⊥)
-    -- a proposal is certified, of the view that is the final one now, and none is passed over,
+    -- a proposal is certified by what it had, of the view that is the final one now, and none is
+    -- passed over,
     MayGive past (Final p) =
-        IsCertified p × (((window_by past).finalized ≡ p.round.view.0)
+        IsCertified past p × (((window_by past).finalized ≡ p.round.view.0)
         × ((HasAnnouncedFrom past p.round.view.0 → ⊥) × IsNextFinal past p))
     -- a vote was written, in this life or before,
     MayGive past (SendVote vote) =
@@ -165,9 +168,9 @@ module _ {D K G C : Type 0} (x : NodeConfig D K G C) where
     MayGive past (Cast vote) =
         HadVoted earlier past (subject_of vote)
         × ((HasRecast past (subject_of vote) → ⊥) × HasEntered past)
-    -- there is a certificate of the kind and the round, and nothing is to be forwarded,
+    -- a certificate of the kind and the round was had, and nothing is to be forwarded,
     MayGive past (SendCertificate kind number) =
-        IsThere kind number
+        IsThere past kind number
         × ((HasHanded past (kind, number) → ⊥) × (to_forward past ≡ None))
     -- a notarization was given to be sent,
     MayGive past (Forward number) =

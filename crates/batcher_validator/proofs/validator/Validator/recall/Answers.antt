@@ -16,7 +16,7 @@ returns-in-Ok-recall_others-clause-recalls g c =
     (subst (λ j. Recalls (config c.recall_floor.new.self.voter.node) (AreBytesOf format j.contents.certificates)
     c.recall_floor.new.self c.recall_others.new.self) c.recall_floor.ensures.journal
     c.in-Ok-recall_others.ensures.recalls))
-    (λ d on_disk. on_disk)
+    (λ d on_disk. on_disk) (λ d on_disk. on_disk)
 
 pub returns-in-Ok-recall_others-clause-knows : goal.returns-in-Ok-recall_others-clause-knows
 returns-in-Ok-recall_others-clause-knows g c =

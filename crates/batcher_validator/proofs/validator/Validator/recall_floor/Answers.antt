@@ -11,6 +11,8 @@ returns-in-Ok-clause-recalls g c =
     let old = c.args.self.now in
     recalls_one (node_config g.S.Scheme.meaning g.S.PublicKey.Ord.cmp g.S.Signature.PartialEq.eq g.D.PartialEq.eq
     old.voter.node) _ old c.recall_one.new.self c.in-Ok-Some.certificate c.in-Ok.ensures.took
+    (subst (λ o. IfSome o (λ d. whole (versioned (certificate_format g.S.Certificate.OwnedCodec.format g.D.Codec.format))
+    old.voter.journal.contents.finalization ≡ Ok d)) c.in-Ok-Some.field-0-is c.in-Ok-Some.ensures.some)
     (λ d there. same_decoded (certificate_format g.S.Certificate.OwnedCodec.format g.D.Codec.format)
     old.voter.journal.contents.finalization c.in-Ok-Some.field-0 c.in-Ok-Some.certificate d
     c.in-Ok-Some.field-0-is c.in-Ok-Some.ensures.some there)

@@ -1,7 +1,7 @@
 use Rattle.batcher_validator.proofs.Words.{◌∙◌, refl, subst, certificate_format, node_config, IsAtPlace, Recalls}
-use Rattle.batcher_validator.proofs.Reading.{bytes_more, none_at_first, recalls_both, recalls_none}
+use Rattle.batcher_validator.proofs.Reading.{bytes_among, bytes_more, none_at_first, recalls_both, recalls_none}
 use Rattle.batcher_voter.proofs.Reopening.{stays_both}
-use Rattle.batcher_validator.proofs.Words.{ap, certifies_itself, length, sym, ◌<◌}
+use Rattle.batcher_validator.proofs.Words.{AreBytesOf, ap, arith, certifies_itself, length, sym, take_all, ◌<◌, ◌≤◌}
 use Rattle.batcher_voter.specs.Unstarted.{WhyNotStarted}
 use Rattle.batcher_validator.proofs.validator.Validator.recall_others.Goals as goal
 
@@ -35,7 +35,8 @@ loop-i-preserved g c =
           c.loop-i.self c.recall_at.new.self) before.1.0
           (subst (λ j. Recalls (config c.loop-i.self.voter.node) (IsAtPlace format j.contents.certificates c.loop-i.i)
           c.loop-i.self c.recall_at.new.self) before.1.1.0 c.in-Ok.ensures.recalls))
-          (bytes_more format first.voter.journal.contents.certificates c.loop-i.i),
+          (bytes_more format first.voter.journal.contents.certificates c.loop-i.i)
+          (bytes_among format first.voter.journal.contents.certificates c.loop-i.i),
       (
         c.recall_at.ensures.node ∙ before.1.0,
         (
@@ -45,6 +46,19 @@ loop-i-preserved g c =
         ),
       ),
     )
+
+pub returns-clause-recalls : goal.returns-clause-recalls
+returns-clause-recalls g c =
+    let config = node_config g.S.Scheme.meaning g.S.PublicKey.Ord.cmp g.S.Signature.PartialEq.eq g.D.PartialEq.eq in
+    let format = certificate_format g.S.Certificate.OwnedCodec.format g.D.Codec.format in
+    let first = c.args.self.now in
+    let all = first.voter.journal.contents.certificates in
+    let up : length c.certificates-i-end.result.now ≤ c.loop-i.i = omega (arith, c.loop-i-test.false) in
+    let end : length all ≤ c.loop-i.i =
+    subst (λ xs. length xs ≤ c.loop-i.i) (c.certificates-i-end.ensures
+    ∙ (ap (λ j. j.contents.certificates) c.journal.ensures ∙ ap (λ v. v.voter.journal.contents.certificates) c.self.view_is)) up in
+    subst (λ xs. Recalls (config first.voter.node) (AreBytesOf format xs) first c.loop-i.self)
+    (take_all c.loop-i.i all end) c.loop-i.invariant.0
 
 pub recall_at-requires : goal.recall_at-requires
 recall_at-requires g c =
