@@ -8,6 +8,7 @@
 
 #define MOST 7
 #define DISK 65536
+#define SHOWN 1024
 #define CHECK(holds)                                                                                \
     do {                                                                                            \
         if (!(holds)) return __LINE__;                                                              \
@@ -463,6 +464,8 @@ static int one_loop_call(struct batcher_loop *loop, uint32_t participants, uint3
 }
 
 static int one_loop(uint64_t seed) {
+    static struct batcher_vote votes[SHOWN];
+    static bool verdicts[SHOWN];
     static uint8_t disk[DISK];
     struct batcher_loop loop = {0};
     struct batcher_loop_options options;
@@ -476,7 +479,7 @@ static int one_loop(uint64_t seed) {
     options.track_historical_votes = below(2) != 0;
     options.begins = true;
     CHECK(batcher_loop_wrote(&loop, 0) == BATCHER_NONE);
-    CHECK(batcher_loop_start(&loop, &options, (const uint8_t *)"c", 1, NULL, 0) == BATCHER_DONE);
+    CHECK(batcher_loop_start(&loop, &options, (const uint8_t *)"c", 1, NULL, 0, NULL, 0) == BATCHER_DONE);
     for (int calls = 0; calls < 200; calls++) {
         int line = one_loop_call(&loop, options.participants, options.participant, disk, &written);
         if (line != 0) return line;
@@ -485,21 +488,26 @@ static int one_loop(uint64_t seed) {
     options.begins = written == 0;
     may_refuse = below(2) != 0;
     refused = false;
-    uint8_t code = batcher_loop_start(&loop, &options, (const uint8_t *)"c", 1, disk, written);
-    CHECK(code == BATCHER_DONE || (code == BATCHER_OUT_OF_MEMORY && refused));
-    if (code == BATCHER_DONE && !options.begins) {
-        struct batcher_vote vote;
-        uint64_t place = 0, count;
-        uint8_t bytes[8], kind;
-        for (; (code = batcher_loop_own_vote(&loop, place, &vote)) != BATCHER_IDLE; place++)
-            CHECK(code == BATCHER_DONE && attests(&vote.attestation) && vote.attestation.signer == options.participant);
-        for (place = 0;; place++) {
-            code = batcher_loop_held(&loop, place, &kind, &vote.proposal, bytes, sizeof bytes, &count);
-            if (code == BATCHER_IDLE) break;
-            CHECK((code == BATCHER_DONE && count <= sizeof bytes) || (code == BATCHER_SHORT && count > sizeof bytes));
-            CHECK(code == BATCHER_SHORT || kind <= BATCHER_FINALIZATION);
-        }
+    uint64_t shown = 0;
+    uint8_t code = batcher_loop_disk(&options, (const uint8_t *)"c", 1, disk, written, votes, SHOWN, &shown);
+    CHECK(code == BATCHER_DONE || (code == BATCHER_OUT_OF_MEMORY && refused && shown == 0));
+    for (uint64_t i = 0; i < shown; i++) {
+        CHECK(votes[i].kind <= BATCHER_FINALIZATION && votes[i].attestation.signer < options.participants);
+        CHECK(attests(&votes[i].attestation));
+        verdicts[i] = true;
     }
+    bool is_given = code == BATCHER_DONE, is_good = true;
+    if (is_given && shown != 0 && below(4) == 0) {
+        is_good = false;
+        if (below(2) != 0)
+            verdicts[below(shown)] = false;
+        else
+            shown--;
+    }
+    refused = false;
+    code = batcher_loop_start(&loop, &options, (const uint8_t *)"c", 1, disk, written, verdicts, shown);
+    CHECK(code == BATCHER_OUT_OF_MEMORY ? refused : !is_given || (code == BATCHER_DONE) == is_good);
+    CHECK(code == BATCHER_DONE || code == BATCHER_NOT_VERIFIED || code == BATCHER_OUT_OF_MEMORY);
     batcher_loop_free(&loop);
     CHECK(loop.at == NULL);
     return 0;

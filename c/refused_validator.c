@@ -6,6 +6,7 @@
 
 #define LAST 4
 #define ROOM 16384
+#define SHOWN 64
 
 struct alone {
     struct batcher_loop loop;
@@ -16,9 +17,16 @@ struct alone {
 };
 
 static bool start(struct alone *it) {
+    static struct batcher_vote votes[SHOWN];
+    static bool verdicts[SHOWN];
+    const uint8_t *name = (const uint8_t *)"c";
+    uint64_t shown = 0;
     uint8_t code;
     it->options.begins = it->written == 0;
-    return AGAIN(batcher_loop_start(&it->loop, &it->options, (const uint8_t *)"c", 1, it->disk, it->written))
+    code = AGAIN(batcher_loop_disk(&it->options, name, 1, it->disk, it->written, votes, SHOWN, &shown));
+    if (code != BATCHER_DONE) return false;
+    for (uint64_t i = 0; i < shown; i++) verdicts[i] = true;
+    return AGAIN(batcher_loop_start(&it->loop, &it->options, name, 1, it->disk, it->written, verdicts, shown))
         == BATCHER_DONE;
 }
 

@@ -22,6 +22,7 @@
 #define ROOM (1 << 20)
 #define NAMESPACE "batcher validator example"
 #define HELLO "batcher validator hello"
+#define SHOWN 16384 /* as many votes as its disk shows */
 #define MESSAGE 128 /* room for what is signed */
 #define SUBJECT 58 /* what it is, its kind, epoch, view, parent and payload */
 
@@ -106,7 +107,7 @@ static const char *hex(const uint8_t *payload) {
 /* The bytes to sign. */
 static size_t message_of(uint8_t *bytes, uint8_t kind, const struct batcher_proposal *proposal) {
     uint64_t length;
-    done(batcher_loop_message(&loop, kind, proposal, bytes, MESSAGE, &length));
+    done(batcher_message((const uint8_t *)NAMESPACE, sizeof NAMESPACE - 1, kind, proposal, bytes, MESSAGE, &length));
     return length;
 }
 
@@ -127,13 +128,6 @@ static size_t verdicts_on(bool *verdicts, uint8_t kind, const struct batcher_pro
     need(code == BATCHER_VERIFY || code == BATCHER_FORGED, batcher_code_text(code));
     for (uint64_t i = 0; i < listed; i++) verdicts[i] = attests(kind, proposal, &list[i]);
     return listed;
-}
-
-static bool certifies(uint8_t kind, const struct batcher_proposal *proposal, const uint8_t *bytes, size_t length) {
-    bool verdicts[MOST], all = true;
-    size_t given = verdicts_on(verdicts, kind, proposal, bytes, length);
-    for (size_t i = 0; i < given; i++) all = all && verdicts[i];
-    return given != 0 && all;
 }
 
 /* Does what is to be done to the files, each thing after the one before lasts. */
@@ -166,21 +160,16 @@ static size_t read_file(const char *folder, int which, uint8_t *bytes) {
     return (size_t)length;
 }
 
-/* What the disk had is sent again, so it is verified first. */
-static void verify_disk(void) {
-    struct batcher_vote vote;
-    struct batcher_proposal proposal;
-    uint64_t place, length;
-    uint8_t kind, code;
-    for (place = 0; (code = batcher_loop_own_vote(&loop, place, &vote)) != BATCHER_IDLE; place++) {
-        done(code);
-        need(attests(vote.kind, &vote.proposal, &vote.attestation), "a vote of its disk doesn't attest");
-    }
-    for (place = 0; (code = batcher_loop_held(&loop, place, &kind, &proposal, room, ROOM, &length)) != BATCHER_IDLE;
-         place++) {
-        done(code);
-        need(certifies(kind, &proposal, room, length), "a certificate of its disk doesn't certify");
-    }
+/* Makes the validator. What its disk shows is sent again, so there is a verdict on each vote of it. */
+static void start_by(const struct batcher_loop_options *options, const uint8_t *bytes, uint64_t length) {
+    static struct batcher_vote votes[SHOWN];
+    static bool verdicts[SHOWN];
+    uint64_t shown = 0;
+    done(batcher_loop_disk(options, (const uint8_t *)NAMESPACE, sizeof NAMESPACE - 1, bytes, length, votes, SHOWN, &shown));
+    for (uint64_t i = 0; i < shown; i++)
+        verdicts[i] = attests(votes[i].kind, &votes[i].proposal, &votes[i].attestation);
+    done(batcher_loop_start(&loop, options, (const uint8_t *)NAMESPACE, sizeof NAMESPACE - 1, bytes, length, verdicts,
+                            shown));
 }
 
 /* The validator that goes on by its files. Files that have nothing show that nothing was signed, so it begins. */
@@ -201,8 +190,7 @@ static void start(const char *folder) {
         done(batcher_files_bytes(&disk, first, ROOM, &written));
     }
     crypto_hash_sha256(options.keys, public[0], 32 * count);
-    done(batcher_loop_start(&loop, &options, (const uint8_t *)NAMESPACE, sizeof NAMESPACE - 1, first, written));
-    if (!options.begins) verify_disk();
+    start_by(&options, first, written);
 }
 
 static void write_down(void) {

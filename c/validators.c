@@ -15,6 +15,7 @@
 #define VIEWS 10000
 #define ROOM 65536
 #define MESSAGES 4096
+#define SHOWN 4096
 #define CHECK(holds)                                                                                \
     do {                                                                                            \
         if (!(holds)) return __LINE__;                                                              \
@@ -150,22 +151,28 @@ static int carry_out(struct validator *it, bool *is_stopped) {
     return 0;
 }
 
-/* What the disk had attests, since nothing else was written. */
-static int verify_disk(const struct batcher_loop *loop) {
-    struct batcher_vote vote;
-    struct message message;
-    uint64_t place, count = 0;
-    uint8_t code;
-    for (place = 0; (code = batcher_loop_own_vote(loop, place, &vote)) != BATCHER_IDLE; place++)
-        CHECK(code == BATCHER_DONE && attests(vote.kind, &vote.proposal, &vote.attestation));
-    memset(&message, 0, sizeof message);
-    for (place = 0; (code = batcher_loop_held(loop, place, &message.vote.kind, &message.vote.proposal, message.bytes,
-                                              sizeof message.bytes, &count))
-                    != BATCHER_IDLE;
-         place++) {
-        message.length = count;
-        CHECK(code == BATCHER_DONE && certifies(loop, &message));
+/* Makes a validator. What its disk shows attests, since nothing else was written, and one that doesn't is refused. */
+static int start_by(struct batcher_loop *loop, const struct batcher_loop_options *options, const uint8_t *disk,
+                    uint64_t length) {
+    static struct batcher_vote votes[SHOWN];
+    static bool verdicts[SHOWN];
+    const uint8_t *name = (const uint8_t *)"c";
+    uint64_t shown = SHOWN;
+    CHECK(batcher_loop_disk(options, name, 1, disk, length, votes, SHOWN, &shown) == BATCHER_DONE && shown < SHOWN);
+    for (uint64_t i = 0; i < shown; i++) {
+        CHECK(attests(votes[i].kind, &votes[i].proposal, &votes[i].attestation));
+        verdicts[i] = true;
     }
+    if (shown != 0) {
+        uint64_t asked = 0;
+        CHECK(batcher_loop_disk(options, name, 1, disk, length, votes, shown - 1, &asked) == BATCHER_SHORT);
+        CHECK(asked == shown);
+        CHECK(batcher_loop_start(loop, options, name, 1, disk, length, verdicts, shown - 1) == BATCHER_NOT_VERIFIED);
+        verdicts[shown / 2] = false;
+        CHECK(batcher_loop_start(loop, options, name, 1, disk, length, verdicts, shown) == BATCHER_NOT_VERIFIED);
+        verdicts[shown / 2] = true;
+    }
+    CHECK(batcher_loop_start(loop, options, name, 1, disk, length, verdicts, shown) == BATCHER_DONE);
     return 0;
 }
 
@@ -193,8 +200,7 @@ static int start(uint32_t me) {
         if (is_stopped) return start(me);
         CHECK(batcher_files_bytes(&it->files, disk, sizeof disk, &count) == BATCHER_DONE);
     }
-    CHECK(batcher_loop_start(&it->loop, &options, (const uint8_t *)"c", 1, disk, count) == BATCHER_DONE);
-    return options.begins ? 0 : verify_disk(&it->loop);
+    return start_by(&it->loop, &options, disk, count);
 }
 
 /* What is owed is written, unless it is stopped before that is done. */
@@ -324,11 +330,22 @@ static int perform(uint32_t me, const struct batcher_task *task) {
         CHECK(batcher_loop_judge(&it->loop, &proposal, true) == BATCHER_DONE);
         return 0;
     case BATCHER_TASK_JUDGE: CHECK(batcher_loop_judge(&it->loop, &proposal, true) == BATCHER_DONE); return 0;
-    /* Its certificate was sent just before. */
-    case BATCHER_TASK_FORWARD:
+    /* Its certificate was sent just before, and who lacks its payload isn't in it. */
+    case BATCHER_TASK_FORWARD: {
+        uint32_t lacking[VALIDATORS];
+        struct batcher_attestation list[VALIDATORS];
+        uint64_t listed = 0;
         CHECK(batcher_loop_kept(&it->loop, BATCHER_NOTARIZATION, &proposal, message.bytes, sizeof message.bytes, &count)
               == BATCHER_DONE);
+        CHECK(batcher_loop_listed(&it->loop, message.bytes, count, list, VALIDATORS, &listed) == BATCHER_VERIFY);
+        uint8_t code = batcher_loop_lacking(&it->loop, &proposal, lacking, VALIDATORS, &count);
+        /* After a start nothing but the notarization is known of its view. */
+        if (code == BATCHER_IDLE) return 0;
+        CHECK(code == BATCHER_DONE && count + listed <= VALIDATORS);
+        for (uint64_t i = 0; i < count; i++)
+            for (uint64_t j = 0; j < listed; j++) CHECK(lacking[i] < VALIDATORS && lacking[i] != list[j].signer);
         return 0;
+    }
     default: return __LINE__;
     }
 }
@@ -488,6 +505,7 @@ static int mistakes(void) {
     struct batcher_vote vote;
     static uint8_t room[ROOM];
     uint64_t count, last;
+    uint32_t lacking[1];
     bool replaces, verdict = true, verdicts[] = {true, true, true};
     const uint32_t signers[] = {0, 2, 3};
     memset(&options, 0, sizeof options);
@@ -496,28 +514,27 @@ static int mistakes(void) {
     memset(&task, 0, sizeof task);
     CHECK(batcher_loop_poll(&loop, &task) == BATCHER_NONE && batcher_loop_hears(&loop, 0) == BATCHER_NONE);
     CHECK(batcher_loop_give(&loop, 0, room, ROOM, &count, &replaces) == BATCHER_NONE);
-    CHECK(batcher_loop_own_vote(&loop, 0, &vote) == BATCHER_NONE);
     CHECK(batcher_loop_message(&loop, 0, &proposal, room, ROOM, &count) == BATCHER_NONE);
     CHECK(batcher_loop_progress(&loop, 1, &progress) == BATCHER_NONE);
     CHECK(batcher_loop_views(&loop, &count, &last) == BATCHER_NONE);
     CHECK(batcher_loop_listed(&loop, room, 0, list, VALIDATORS, &count) == BATCHER_NONE);
     CHECK(batcher_loop_wants(&loop, 0, 0, &proposal) == BATCHER_NONE);
-    CHECK(batcher_loop_held(&loop, 0, &vote.kind, &proposal, room, ROOM, &count) == BATCHER_NONE);
-    CHECK(batcher_loop_start(&loop, &options, NULL, 0, NULL, 0) == BATCHER_MALFORMED);
+    CHECK(batcher_message(NULL, 0, 3, &proposal, room, ROOM, &count) == BATCHER_MALFORMED);
+    CHECK(batcher_loop_lacking(&loop, &proposal, lacking, 1, &count) == BATCHER_NONE);
+    CHECK(batcher_loop_start(&loop, &options, NULL, 0, NULL, 0, NULL, 0) == BATCHER_MALFORMED);
     options.participants = VALIDATORS;
     options.participant = VALIDATORS;
     options.ahead = 8;
-    CHECK(batcher_loop_start(&loop, &options, NULL, 0, NULL, 0) == BATCHER_MALFORMED);
+    CHECK(batcher_loop_start(&loop, &options, NULL, 0, NULL, 0, NULL, 0) == BATCHER_MALFORMED);
     options.participant = 1;
-    CHECK(batcher_loop_start(&loop, &options, NULL, 0, NULL, 0) == BATCHER_NOT_BEGUN);
-    CHECK(batcher_loop_start(&loop, &options, NULL, 0, (const uint8_t *)"abc", 3) == BATCHER_OTHER_VERSION);
+    CHECK(batcher_loop_start(&loop, &options, NULL, 0, NULL, 0, NULL, 0) == BATCHER_NOT_BEGUN);
+    CHECK(batcher_loop_start(&loop, &options, NULL, 0, (const uint8_t *)"abc", 3, NULL, 0) == BATCHER_OTHER_VERSION);
     options.begins = true;
-    CHECK(batcher_loop_start(&loop, &options, NULL, 0, (const uint8_t *)"abc", 3) == BATCHER_BEGUN);
+    CHECK(batcher_loop_start(&loop, &options, NULL, 0, (const uint8_t *)"abc", 3, NULL, 0) == BATCHER_BEGUN);
     CHECK(loop.at == NULL);
-    CHECK(batcher_loop_start(&loop, &options, (const uint8_t *)"c", 1, NULL, 0) == BATCHER_DONE);
+    CHECK(batcher_loop_start(&loop, &options, (const uint8_t *)"c", 1, NULL, 0, NULL, 0) == BATCHER_DONE);
     /* Nothing is done before its journal is written. */
     CHECK(batcher_loop_poll(&loop, &task) == BATCHER_WRITE && batcher_loop_poll(&loop, &task) == BATCHER_WRITE);
-    CHECK(batcher_loop_held(&loop, 0, &vote.kind, &proposal, room, ROOM, &count) == BATCHER_NOT_WRITTEN);
     CHECK(batcher_loop_give(&loop, 0, room, ROOM, &count, &replaces) == BATCHER_DONE && count > 0);
     /* It is given once, and what is sent waits for it. */
     CHECK(batcher_loop_give(&loop, 1, room, ROOM, &count, &replaces) == BATCHER_IDLE);
@@ -595,21 +612,20 @@ static int mistakes(void) {
     CHECK(batcher_loop_wrote(&loop, 1) == BATCHER_DONE);
     CHECK(batcher_loop_kept(&loop, BATCHER_FINALIZATION, &proposal, room, ROOM, &count) == BATCHER_DONE);
     CHECK(count == length);
-    CHECK(batcher_loop_own_vote(&loop, 0, &vote) == BATCHER_IDLE);
     /* The bytes are of another participant, of another epoch, or are damaged. */
-    CHECK(batcher_loop_start(&loop, &options, (const uint8_t *)"c", 1, NULL, 0) == BATCHER_DONE);
+    CHECK(batcher_loop_start(&loop, &options, (const uint8_t *)"c", 1, NULL, 0, NULL, 0) == BATCHER_DONE);
     CHECK(batcher_loop_give(&loop, 0, room, ROOM, &count, &replaces) == BATCHER_DONE);
     options.begins = false;
-    CHECK(batcher_loop_start(&loop, &options, (const uint8_t *)"d", 1, room, count) == BATCHER_OTHER_OWNER);
+    CHECK(batcher_loop_start(&loop, &options, (const uint8_t *)"d", 1, room, count, NULL, 0) == BATCHER_OTHER_OWNER);
     options.epoch = 1;
-    CHECK(batcher_loop_start(&loop, &options, (const uint8_t *)"c", 1, room, count) == BATCHER_OTHER_OWNER);
+    CHECK(batcher_loop_start(&loop, &options, (const uint8_t *)"c", 1, room, count, NULL, 0) == BATCHER_OTHER_OWNER);
     options.epoch = 0;
-    CHECK(batcher_loop_start(&loop, &options, (const uint8_t *)"c", 1, room, count - 1) == BATCHER_DAMAGED);
-    CHECK(batcher_loop_start(&loop, &options, (const uint8_t *)"c", 1, room, count) == BATCHER_DONE);
+    CHECK(batcher_loop_start(&loop, &options, (const uint8_t *)"c", 1, room, count - 1, NULL, 0) == BATCHER_DAMAGED);
+    CHECK(batcher_loop_start(&loop, &options, (const uint8_t *)"c", 1, room, count, NULL, 0) == BATCHER_DONE);
     batcher_loop_free(&loop);
     batcher_loop_free(&loop);
     options.begins = true;
-    CHECK(batcher_loop_start(&loop, &options, (const uint8_t *)"c", 1, NULL, 0) == BATCHER_DONE);
+    CHECK(batcher_loop_start(&loop, &options, (const uint8_t *)"c", 1, NULL, 0, NULL, 0) == BATCHER_DONE);
     int line = lists(&loop);
     batcher_loop_free(&loop);
     return line;

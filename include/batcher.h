@@ -45,7 +45,7 @@ enum batcher_code {
     BATCHER_ELSEWHERE, /* of another round, or of a view outside of the window */
     BATCHER_OUT_OF_MEMORY, /* all is as it was, but that an own vote may be written: call again */
     BATCHER_LEADER_CHANGED, /* another leader was named before */
-    BATCHER_NOT_VERIFIED, /* an own vote that doesn't attest, or whose signer takes no part */
+    BATCHER_NOT_VERIFIED, /* an own vote that doesn't attest, or whose signer takes no part, or one of the disk */
     BATCHER_DUPLICATE_NOTARIZE, /* a notarize of its signer is kept */
     BATCHER_DUPLICATE_FINALIZE, /* a finalize of its signer is kept */
     BATCHER_CONFLICTING, /* an earlier vote of its kind and signer was for another proposal */
@@ -241,8 +241,8 @@ struct batcher_loop_options {
 };
 
 /* Does nothing. Its name has the version of this header, so a library of another one doesn't link. */
-void batcher_abi_6(void);
-__attribute__((used)) static void (*const batcher_abi)(void) = batcher_abi_6;
+void batcher_abi_7(void);
+__attribute__((used)) static void (*const batcher_abi)(void) = batcher_abi_7;
 
 /* The library takes its memory by these three, which a program defines: c/heap.c does, over malloc. A block
  * is aligned by 16, and `at` is never null, also where the request is refused. */
@@ -264,7 +264,7 @@ static inline const char *batcher_code_text(uint8_t code) {
     case BATCHER_ELSEWHERE: return "of another round, or outside of the window";
     case BATCHER_OUT_OF_MEMORY: return "out of memory";
     case BATCHER_LEADER_CHANGED: return "another leader was named before";
-    case BATCHER_NOT_VERIFIED: return "the own vote doesn't attest";
+    case BATCHER_NOT_VERIFIED: return "the own vote, or one of the disk, doesn't attest";
     case BATCHER_DUPLICATE_NOTARIZE: return "a notarize of its signer is kept";
     case BATCHER_DUPLICATE_FINALIZE: return "a finalize of its signer is kept";
     case BATCHER_CONFLICTING: return "an earlier vote of its kind and signer was for another proposal";
@@ -373,12 +373,21 @@ uint8_t batcher_round_construct_together(struct batcher_round *round, uint8_t ki
                                          const struct batcher_attestation *list, size_t list_length,
                                          struct batcher_step *out);
 
+/* The votes that the disk of a validator shows: its own, and those that its certificates list. Verify each before
+ * `batcher_loop_start`: they are sent again. `count` has how many they are. SHORT: the list is too short for so
+ * many, and stays as it was. NOT_VERIFIED: a certificate there lists no quorum. Else the code is that of
+ * `batcher_loop_start`. */
+uint8_t batcher_loop_disk(const struct batcher_loop_options *options, const uint8_t *namespace_bytes,
+                          size_t namespace_bytes_length, const uint8_t *disk, size_t disk_length,
+                          struct batcher_vote *list, size_t list_length, uint64_t *count);
+
 /* A validator: it takes in what comes, votes by the rules, and says what is to be done next. `poll` after
  * each call, until it is IDLE. Its disk has the bytes `disk`; where it `begins`, none. The namespace keeps
- * its votes apart from those of other uses of the keys. Where it is DONE, the handle's earlier one is freed. */
+ * its votes apart from those of other uses of the keys. There is a verdict on each vote that its disk shows.
+ * NOT_VERIFIED: one has none, or doesn't attest. Where it is DONE, the handle's earlier one is freed. */
 uint8_t batcher_loop_start(struct batcher_loop *validator, const struct batcher_loop_options *options,
                            const uint8_t *namespace_bytes, size_t namespace_bytes_length, const uint8_t *disk,
-                           size_t disk_length);
+                           size_t disk_length, const bool *verdicts, size_t verdicts_length);
 
 /* Frees the validator, if there is one. */
 void batcher_loop_free(struct batcher_loop *validator);
@@ -437,8 +446,12 @@ uint8_t batcher_loop_conclude(struct batcher_loop *validator, uint8_t kind,
                               const struct batcher_attestation *list, size_t list_length,
                               const bool *verdicts, size_t verdicts_length);
 
-/* The bytes to sign for a subject, and to verify a signature on it: no other subject has the same ones, and none
- * in another namespace. SHORT: the room is too short for so many. */
+/* The bytes to sign for a subject in a namespace, and to verify a signature on it: no other subject has the same
+ * ones, and none in another namespace. SHORT: the room is too short for so many. */
+uint8_t batcher_message(const uint8_t *namespace_bytes, size_t namespace_bytes_length, uint8_t kind,
+                        const struct batcher_proposal *proposal, uint8_t *room, size_t room_length, uint64_t *count);
+
+/* The same in the namespace of the validator. */
 uint8_t batcher_loop_message(const struct batcher_loop *validator, uint8_t kind,
                              const struct batcher_proposal *proposal, uint8_t *room, size_t room_length,
                              uint64_t *count);
@@ -477,22 +490,19 @@ uint8_t batcher_loop_hears(const struct batcher_loop *validator, uint64_t peer);
 uint8_t batcher_loop_certified(const struct batcher_loop *validator, uint8_t kind,
                                struct batcher_proposal *proposal);
 
-/* What the disk had, by place, until it is IDLE: its own votes of earlier lives, and the certificates, with
- * kind, proposal and bytes. Verify them all before the first poll: they are sent again. A validator with one
- * that isn't good is freed, and not polled. SHORT: the room is too short for so many bytes. NOT_WRITTEN: as of
- * `kept`. */
-uint8_t batcher_loop_own_vote(const struct batcher_loop *validator, uint64_t index, struct batcher_vote *out);
-
-uint8_t batcher_loop_held(const struct batcher_loop *validator, uint64_t index, uint8_t *kind,
-                          struct batcher_proposal *proposal, uint8_t *room, size_t room_length,
-                          uint64_t *count);
-
 /* The certificate of this kind and of the round of the proposal: its bytes, and the whole proposal. One that
  * it made is its list of attestations. SHORT: the room is too short for so many bytes. IDLE: none is kept.
  * NOT_WRITTEN: it may have an own vote that the disk lacks. */
 uint8_t batcher_loop_kept(const struct batcher_loop *validator, uint8_t kind,
                           struct batcher_proposal *proposal, uint8_t *room, size_t room_length,
                           uint64_t *count);
+
+/* Who isn't known to have the payload of the proposal that is notarized in the round of this one: neither a vote
+ * that came shows it, nor the notarization. The list has as many as it has places, and `count` says how many they
+ * are. IDLE: nothing is notarized there, or nothing but that is known of its view, as after a start: then who isn't in
+ * the notarization may lack it. */
+uint8_t batcher_loop_lacking(const struct batcher_loop *validator, const struct batcher_proposal *proposal,
+                             uint32_t *list, size_t list_length, uint64_t *count);
 
 /* What is in two files that take turns, so that a crash at any moment leaves all that was written, or that and
  * what was being written. Nothing here reads or writes a file: each of the first four calls says what is to be done,

@@ -490,8 +490,9 @@ pub enum Task<G> {
     SendVote(Vote<G>),
     /// Send this certificate to all others.
     SendCertificate(Listed),
-    /// Send the payload of this proposal to these participants, which may lack it: it is notarized
-    /// without them. The validator has it, since its own vote is in the notarization.
+    /// Send the payload of this proposal, which is notarized, to these participants, which may lack it:
+    /// neither a vote that came shows that they have it, nor the notarization. The validator has it
+    /// itself, as its own vote shows.
     Forward(Proposal, Vec<Participant>),
     /// This view is entered: start its timer. Once it is over, say so by [`Loop::expire`]. Where its
     /// leader is blocked here, or absent, the view is given up already.
@@ -597,13 +598,14 @@ impl<G: Clone + AsRef<[u8]> + for<'b> TryFrom<&'b [u8]>> Loop<G> {
         options: &Options,
         leader: impl Fn(View) -> Participant + 'static,
     ) -> Result<Self, StartError> {
-        Loop::of(options, leader, true, &[])
+        Loop::of(options, leader, true, &[], &[])
     }
 
     /// The validator whose disk has these bytes, all that it had written. It goes on from there.
     ///
-    /// Before that its own votes and its certificates are verified, which are sent again: `verify`
-    /// finds out which attest, one verdict for each. It is called for each vote and certificate.
+    /// Before that the votes are verified that its disk shows, which are sent again: its own, and those
+    /// that its certificates list. `verify` finds out which attest, one verdict for each. It is called
+    /// for each of its own, and for those of a certificate.
     ///
     /// # Errors
     ///
@@ -619,67 +621,8 @@ impl<G: Clone + AsRef<[u8]> + for<'b> TryFrom<&'b [u8]>> Loop<G> {
         disk: &[u8],
         mut verify: impl FnMut(&Wanted<G>) -> Vec<bool>,
     ) -> Result<Self, StartError> {
-        let started = Loop::of(options, leader, false, disk)?;
-        started.verify_votes(&mut verify)?;
-        started.verify_certificates(&mut verify)?;
-        Ok(started)
-    }
-
-    /// Has the own votes of the disk verified.
-    fn verify_votes(
-        &self,
-        verify: &mut impl FnMut(&Wanted<G>) -> Vec<bool>,
-    ) -> Result<(), StartError> {
-        let mut vote = ffi::Vote::default();
-        for place in 0.. {
-            match self.library.own_vote(place, &mut vote) {
-                code::DONE => {}
-                code::IDLE => break,
-                other => unknown(other),
-            }
-            let subject = subject_of(kind_of(vote.kind), &vote.proposal);
-            if !attest(&self.own(subject, &vote.attestation)?, &mut *verify) {
-                return Err(StartError::NotVerified);
-            }
-        }
-        Ok(())
-    }
-
-    /// Has the certificates of the disk verified.
-    fn verify_certificates(
-        &self,
-        verify: &mut impl FnMut(&Wanted<G>) -> Vec<bool>,
-    ) -> Result<(), StartError> {
-        for place in 0.. {
-            let Some(certificate) = self.held(place)? else {
-                break;
-            };
-            match self.attestations(&certificate)? {
-                Some(wanted) if attest(&wanted, &mut *verify) => {}
-                _ => return Err(StartError::NotVerified),
-            }
-        }
-        Ok(())
-    }
-
-    /// The certificate at a place of those that are kept.
-    fn held(&self, place: u64) -> Result<Option<Listed>, OutOfMemory> {
-        let (mut kind, mut flat, mut count) = (0, ffi::Proposal::default(), 0);
-        let mut bytes = Vec::new();
-        loop {
-            match self
-                .library
-                .held(place, &mut kind, &mut flat, &mut bytes, &mut count)
-            {
-                code::DONE => {
-                    let subject = subject_of(kind_of(kind), &flat);
-                    return Ok(Some(Certificate::new(subject, bytes)));
-                }
-                code::IDLE => return Ok(None),
-                code::SHORT => reserve_bytes(&mut bytes, count)?,
-                other => unknown(other),
-            }
-        }
+        let verdicts = verify_disk(options, disk, &mut verify)?;
+        Loop::of(options, leader, false, disk, &verdicts)
     }
 
     /// An attestation of its own, to be verified.
@@ -698,17 +641,11 @@ impl<G: Clone + AsRef<[u8]> + for<'b> TryFrom<&'b [u8]>> Loop<G> {
         leader: impl Fn(View) -> Participant + 'static,
         begins: bool,
         disk: &[u8],
+        verdicts: &[bool],
     ) -> Result<Self, StartError> {
-        let flat = loops::LoopOptions {
-            epoch: options.epoch.get(),
-            ahead: options.ahead,
-            participants: options.participants,
-            participant: options.me.get(),
-            keys: options.keys,
-            track_historical_votes: options.track_historical_votes,
-            begins,
-        };
-        let library = loops::Loop::start(&flat, options.namespace, disk).map_err(start_error)?;
+        let flat = flat_options(options, begins);
+        let library =
+            loops::Loop::start(&flat, options.namespace, disk, verdicts).map_err(start_error)?;
         let mut list = Vec::new();
         let none = ffi::Attestation::default();
         reserve_each(&mut list, options.participants, none).map_err(|_| StartError::OutOfMemory)?;
@@ -856,25 +793,42 @@ impl<G: Clone + AsRef<[u8]> + for<'b> TryFrom<&'b [u8]>> Loop<G> {
         }))
     }
 
-    /// Who isn't in the notarization of a round, where this validator is in it. Else it may lack the
-    /// payload itself.
+    /// Who isn't known to have the payload that is notarized in a round, where this validator has it.
     fn forward(&self, round: Round) -> Result<Option<Task<G>>, PollError> {
-        let Some(Certificate::Notarization(made)) = self.kept(Kind::Notarization, round)? else {
+        let made = self.subject_certified(Kind::Notarization, round);
+        let Some(proposal) = made.and_then(|it| it.proposal()) else {
             return Ok(None);
         };
-        let mut lacks = Vec::new();
-        reserve_each(&mut lacks, self.participants, true)?;
-        for it in self.listing(&made.certificate)?.unwrap_or_default() {
-            if let Some(lacks) = lacks.get_mut(it.signer as usize) {
-                *lacks = false;
-            }
+        let (mut list, mut count) = (Vec::new(), 0);
+        reserve_each(&mut list, self.participants, 0)?;
+        match self
+            .library
+            .lacking(&flat_proposal(&proposal), &mut list, &mut count)
+        {
+            code::DONE => list.truncate(count as usize),
+            // Nothing else is known of the view, as after a start.
+            code::IDLE => list = self.unlisted(round)?,
+            code::OUT_OF_MEMORY => return Err(PollError::OutOfMemory),
+            other => unknown(other),
         }
         let mut to = Vec::new();
-        reserve(&mut to, lacks.iter().filter(|lacks| **lacks).count())?;
-        let all = (0..self.participants).map(Participant::new).zip(&lacks);
-        to.extend(all.filter(|it| *it.1).map(|it| it.0));
-        let has_it = !lacks[usize::from(self.me)];
-        Ok((has_it && !to.is_empty()).then_some(Task::Forward(made.proposal, to)))
+        reserve(&mut to, list.len())?;
+        to.extend(list.into_iter().map(Participant::new));
+        let has_it = !to.contains(&self.me);
+        Ok((has_it && !to.is_empty()).then_some(Task::Forward(proposal, to)))
+    }
+
+    /// Who isn't in the notarization of a round.
+    fn unlisted(&self, round: Round) -> Result<Vec<u32>, PollError> {
+        let mut others = Vec::new();
+        let Some(Certificate::Notarization(made)) = self.kept(Kind::Notarization, round)? else {
+            return Ok(others);
+        };
+        let listed = self.listing(&made.certificate)?.unwrap_or_default();
+        reserve(&mut others, self.participants as usize)?;
+        let is_listed = |it: &u32| listed.iter().any(|attestation| attestation.signer == *it);
+        others.extend((0..self.participants).filter(|it| !is_listed(it)));
+        Ok(others)
     }
 
     /// What is to be written, where no write is under way.
@@ -1557,7 +1511,123 @@ fn start_error(answer: u8) -> StartError {
         code::OTHER_VERSION => StartError::OtherVersion,
         code::OTHER_OWNER => StartError::OtherOwner,
         code::DAMAGED => StartError::Damaged,
+        code::NOT_VERIFIED => StartError::NotVerified,
         other => unknown(other),
+    }
+}
+
+fn flat_options(options: &Options, begins: bool) -> loops::LoopOptions {
+    loops::LoopOptions {
+        epoch: options.epoch.get(),
+        ahead: options.ahead,
+        participants: options.participants,
+        participant: options.me.get(),
+        keys: options.keys,
+        track_historical_votes: options.track_historical_votes,
+        begins,
+    }
+}
+
+/// Has each vote verified that a disk shows, and gives a verdict on each. Its own, which come first, are
+/// verified one by one, and of the others those at once that are of one subject.
+fn verify_disk<G: for<'b> TryFrom<&'b [u8]>>(
+    options: &Options,
+    disk: &[u8],
+    verify: &mut impl FnMut(&Wanted<G>) -> Vec<bool>,
+) -> Result<Vec<bool>, StartError> {
+    let shown = shown_by(options, disk)?;
+    let mut verdicts = Vec::new();
+    reserve(&mut verdicts, shown.len()).map_err(|_| StartError::OutOfMemory)?;
+    let (own, mut left) = shown.split_at(own_votes(&shown, options.me));
+    for vote in own {
+        let wanted = wanted_on(options.namespace, std::slice::from_ref(vote))?;
+        verdicts.extend(verdicts_on(&wanted, &mut *verify));
+    }
+    while !left.is_empty() {
+        let (votes, others) = left.split_at(together(left));
+        let wanted = wanted_on(options.namespace, votes)?;
+        verdicts.extend(verdicts_on(&wanted, &mut *verify));
+        left = others;
+    }
+    Ok(verdicts)
+}
+
+/// The votes that a disk shows: its own, and those that its certificates list.
+fn shown_by(options: &Options, disk: &[u8]) -> Result<Vec<ffi::Vote>, StartError> {
+    let (flat, mut votes, mut count) = (flat_options(options, false), Vec::new(), 0);
+    loop {
+        match loops::Loop::disk(&flat, options.namespace, disk, &mut votes, &mut count) {
+            code::DONE => return Ok(votes),
+            code::SHORT => {
+                let count = usize::try_from(count).map_err(|_| StartError::OutOfMemory)?;
+                reserve(&mut votes, count).map_err(|_| StartError::OutOfMemory)?;
+                votes.resize(count, ffi::Vote::default());
+            }
+            other => return Err(start_error(other)),
+        }
+    }
+}
+
+/// How many of the first votes are its own. It has none twice, so one that is there again is of a
+/// certificate.
+fn own_votes(votes: &[ffi::Vote], me: Participant) -> usize {
+    let ends = |at: &usize| {
+        let vote = &votes[*at];
+        let subject = subject_voted(vote);
+        vote.attestation.signer != me.get()
+            || votes[..*at].iter().any(|it| subject_voted(it) == subject)
+    };
+    (0..votes.len()).find(ends).unwrap_or(votes.len())
+}
+
+/// How many of the first votes are of one subject, each of another participant.
+fn together(votes: &[ffi::Vote]) -> usize {
+    let subject = subject_voted(&votes[0]);
+    let ends = |at: &usize| {
+        let (before, vote) = (&votes[..*at], &votes[*at]);
+        let signer = vote.attestation.signer;
+        subject_voted(vote) != subject || before.iter().any(|it| it.attestation.signer == signer)
+    };
+    (1..votes.len()).find(ends).unwrap_or(votes.len())
+}
+
+fn subject_voted(vote: &ffi::Vote) -> Subject {
+    subject_of(kind_of(vote.kind), &vote.proposal)
+}
+
+/// What these votes attest, all of one subject, to be verified.
+fn wanted_on<G: for<'b> TryFrom<&'b [u8]>>(
+    namespace: &[u8],
+    votes: &[ffi::Vote],
+) -> Result<Wanted<G>, StartError> {
+    let mut list = Vec::new();
+    reserve(&mut list, votes.len()).map_err(|_| StartError::OutOfMemory)?;
+    list.extend(votes.iter().map(|vote| vote.attestation));
+    let attestations = match attestations_of(&list) {
+        Ok(it) => it,
+        // One of them is no signature of the scheme.
+        Err(VoteError::SignatureBytes) => return Err(StartError::NotVerified),
+        Err(VoteError::OutOfMemory) => return Err(StartError::OutOfMemory),
+    };
+    let subject = subject_voted(&votes[0]);
+    let message = message_in(namespace, &subject).map_err(|_| StartError::OutOfMemory)?;
+    Ok(Wanted {
+        subject,
+        message,
+        attestations,
+    })
+}
+
+/// The bytes to sign for a subject in a namespace.
+fn message_in(namespace: &[u8], subject: &Subject) -> Result<Vec<u8>, OutOfMemory> {
+    let (kind, flat) = (kind_code(subject.kind()), flat_subject(subject));
+    let (mut bytes, mut count) = (Vec::new(), 0);
+    loop {
+        match loops::message(namespace, kind, &flat, &mut bytes, &mut count) {
+            code::DONE => return Ok(bytes),
+            code::SHORT => reserve_bytes(&mut bytes, count)?,
+            other => unknown(other),
+        }
     }
 }
 

@@ -241,9 +241,13 @@ impl Node {
         if self.sent.len() % 16 != 1 {
             return;
         }
-        let mut is_written = false;
+        // Its own votes come first.
+        let (mut is_written, mut is_own) = (false, true);
         let verify = |checks: &[Check<Signature>]| {
-            is_written |= checks.len() == 1 && *checks[0].subject() == subject;
+            for check in checks {
+                is_own &= check.signer() == Participant::new(self.me);
+                is_written |= is_own && *check.subject() == subject;
+            }
             truth(checks)
         };
         let bytes = self.disk.bytes();

@@ -566,11 +566,14 @@ fn kinds_are_verified_at_once() {
 fn a_payload_is_forwarded_to_who_may_lack_it() {
     let proposal = first_proposal();
     let notarize = Subject::Notarize { proposal };
-    // Where the validator didn't notarize, it may lack the payload too.
-    for is_valid in [true, false] {
+    // Where the validator didn't notarize, it may lack the payload too. Who finalizes has it.
+    for (is_valid, finalizes) in [(true, false), (true, true), (false, false)] {
         let mut running = of_seven();
         for signer in 1..5 {
             hear_vote(&mut running, notarize, signer);
+        }
+        if finalizes {
+            hear_vote(&mut running, Subject::Finalize { proposal }, 5);
         }
         running.judge(&proposal, is_valid);
         let mut forwarded = Vec::new();
@@ -595,8 +598,8 @@ fn a_payload_is_forwarded_to_who_may_lack_it() {
             }
         }
         if is_valid {
-            let to = [5, 6].map(Participant::new).to_vec();
-            assert_eq!(forwarded, [(proposal, to)]);
+            let to = (if finalizes { 6..7 } else { 5..7 }).map(Participant::new);
+            assert_eq!(forwarded, [(proposal, to.collect())]);
             continue;
         }
         hear_vote(&mut running, notarize, 5);

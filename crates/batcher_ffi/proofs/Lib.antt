@@ -6,3 +6,4 @@ mod Others
 mod Unmade
 mod Puts
 mod Listings
+mod Holding

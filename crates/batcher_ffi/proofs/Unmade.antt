@@ -4,7 +4,7 @@ use Rattle.std.specs.Prelude.{◌≢◌, ◌<◌, ◌||◌, ◌==◌, true, fals
 use Rattle.batcher_ffi.specs.Loops.{IsOthers, WhyNotMade, owner_in, start_codes}
 use Rattle.batcher_ffi.specs.Rounds.{is_one_of}
 use Rattle.batcher_ffi.specs.declared.codes.TheConstants.{BEGUN, MALFORMED, NOT_BEGUN}
-use Rattle.batcher_ffi.specs.declared.loops.LoopOptions.{LoopOptions}
+use Rattle.batcher_ffi.specs.declared.starting.LoopOptions.{LoopOptions}
 
 or_more : (a b c : Bool) → c ≡ true → (a || (b || c)) ≡ true
 or_more true b c e = refl

@@ -8,6 +8,8 @@ pub mod Rounds
 pub mod Answers
 pub mod Tasks
 pub mod Loops
+pub mod Disks
+pub mod Forwarding
 pub mod Progress
 pub mod Files
 pub mod Handles

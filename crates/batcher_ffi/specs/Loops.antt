@@ -114,7 +114,7 @@ use Rattle.batcher_ffi.specs.declared.flat.FlatAttestation.{FlatAttestation}
 use Rattle.batcher_ffi.specs.declared.flat.FlatProposal.{FlatProposal}
 use Rattle.batcher_ffi.specs.declared.flat.FlatStep.{FlatStep}
 use Rattle.batcher_ffi.specs.declared.flat.FlatVote.{FlatVote}
-use Rattle.batcher_ffi.specs.declared.loops.LoopOptions.{LoopOptions}
+use Rattle.batcher_ffi.specs.declared.starting.LoopOptions.{LoopOptions}
 use Rattle.batcher_ffi.specs.declared.tasks.FlatTask.{FlatTask}
 use Rattle.batcher_ffi.specs.Flat.{AreIn, fault_in, kind_in, proposal_of_flat, raw_in}
 use Rattle.batcher_ffi.specs.Flat.{raw_vote_in, round_of_flat, subject_in, vote_of_flat}
@@ -185,8 +185,13 @@ loop_writing l = under_way_of l.validator
 abbrev pub loop_namespace : CLoop → List ℕ
 loop_namespace l = l.validator.voter.journal.contents.owner.1.1.1.1
 
-abbrev pub message_of : CLoop → Subject Sha256Digest → List ℕ
-message_of l subject = (signing_format sha256_format).encoding (loop_namespace l, subject)
+-- Bytes to sign for a subject are given, where its kind is one.
+abbrev pub GivesMessage : List ℕ → ℕ → ℕ → FlatProposal → List ℕ → List ℕ → ℕ → ℕ → Type 0
+GivesMessage namespace code kind proposal room list old count =
+    MatchOption (subject_in kind proposal)
+    ((code ≡ MALFORMED) × ((list ≡ room) × (count ≡ old)))
+    (λ subject. WritesAll ((signing_format sha256_format).encoding (namespace, subject)) room list
+    count code)
 
 -- the certificates that it keeps
 abbrev pub kept_in : CLoop → List (Certificate ProofView Sha256Digest)
@@ -302,13 +307,6 @@ pub record WhyNotMade (options : LoopOptions) (namespace disk : List ℕ) (code 
   pub damaged : code ≡ DAMAGED → AreDamaged (owner_in options namespace) disk
   pub needed : code ≡ OUT_OF_MEMORY → MayBeMade options disk
 
--- What a call that makes a validator does to a handle: where it fails, the handle stays as it was.
-pub record MakesLoop (old new : Option CLoop) (code : ℕ) (options : LoopOptions)
-    (namespace disk : List ℕ) : Type 0 where
-  pub done : code ≡ DONE → IsSomeAnd new (IsMade options namespace disk)
-  pub refused : code ≢ DONE → WhyNotMade options namespace disk code
-  pub stays : code ≢ DONE → new ≡ old
-
 -- what is to be done next, or why that isn't said
 abbrev pub AnswersPoll : Result (Option Next) PollFault → ℕ → FlatTask → FlatTask → Type 0
 AnswersPoll (Ok (Some (Do task))) code old out =
@@ -395,13 +393,6 @@ module _ (l : CLoop) (code : ℕ) where
     pub waits : code ≢ IDLE → loop_writing l ≡ None
     pub written : code ≢ IDLE → WritesAll owed room list count code
 
-  -- The bytes to sign for a subject, where its kind is one.
-  abbrev pub AsksMessage : ℕ → FlatProposal → List ℕ → List ℕ → ℕ → ℕ → Type 0
-  AsksMessage kind proposal room list old count =
-      MatchOption (subject_in kind proposal)
-      ((code ≡ MALFORMED) × ((list ≡ room) × (count ≡ old)))
-      (λ subject. WritesAll (message_of l subject) room list count code)
-
   -- Which view it is in, and the highest that is final: none is where they are 0.
   pub record AsksViews (current last : ℕ) : Type 0 where
     pub codes : code ≡ DONE
@@ -479,30 +470,6 @@ module _ (l : CLoop) (code : ℕ) where
       (IsAllWritten l.validator × ShowsKept typed kind asked out room list old count)
       ⊎ ((code ≡ NOT_WRITTEN) × ((IsAllWritten l.validator → ⊥)
       × ((list ≡ room) × ((out ≡ asked) × (count ≡ old))))))
-
-  -- A vote of an earlier life, by its place among these.
-  abbrev pub AsksEarlier : ℕ → FlatVote → FlatVote → Type 0
-  AsksEarlier index old out =
-      MatchOption (slice_get (earlier_in l) index) ((code ≡ IDLE) × (out ≡ old)) (λ vote.
-      (code ≡ DONE) × (raw_vote_in out ≡ Some vote))
-
-  -- A certificate that is kept, by its place.
-  pub record GivesHeld (index before kind : ℕ) (old out : FlatProposal) (room list : List ℕ)
-      (count : ℕ) : Type 0 where
-    pub certificate : Certificate ProofView Sha256Digest
-    pub there : slice_get (kept_in l) index ≡ Some certificate
-    pub is_written : IsAllWritten l.validator
-    pub bytes : WritesAll (content_of certificate).bytes room list count code
-    pub subject : code ≡ DONE → subject_in kind out ≡ Some (subject_certified certificate)
-    pub short : code ≡ SHORT → (kind ≡ before) × (out ≡ old)
-
-  -- None is shown where something isn't written: it may have an own vote that the disk lacks.
-  pub record HasNoHeld (index before kind : ℕ) (old out : FlatProposal) (room list : List ℕ)
-      (was count : ℕ) : Type 0 where
-    pub codes : (code ≡ IDLE) ⊎ (code ≡ NOT_WRITTEN)
-    pub none : code ≡ IDLE → length (kept_in l) ≤ index
-    pub waits : code ≡ NOT_WRITTEN → IsAllWritten l.validator → ⊥
-    pub stays : (kind ≡ before) × ((out ≡ old) × ((list ≡ room) × (count ≡ was)))
 
 -- Calls of a validator, and what is answered to them.
 module _ (before : CLoop) (code : ℕ) (after : CLoop) where

@@ -97,13 +97,15 @@ fn signers_differ(all: &[Attestation<Signature>]) -> bool
     true
 }
 
-fn has_signer(all: &[Attestation<Signature>], signer: u32) -> bool
+/// Whether one of them is of this signer.
+pub fn has_signer(all: &[Attestation<Signature>], signer: u32) -> bool
     ensures { result ≡ list_any (λ a. a.signer.0 == signer) all.now }
 {
     all.iter().any(|attestation| attestation.signer.0 == signer)
 }
 
-fn all_attest(verdicts: &[bool]) -> bool
+/// Whether each verdict is yes.
+pub fn all_attest(verdicts: &[bool]) -> bool
     ensures { result ≡ list_all (λ b. b) verdicts.now }
 {
     verdicts.iter().all(|attests| *attests)

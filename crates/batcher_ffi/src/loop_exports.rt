@@ -1,26 +1,45 @@
 //! The functions of a validator that C calls. Each answers a code of the header.
 
-ghost use Rattle.std.specs.Prelude.{◌≡◌, ◌⊎◌, ⊤, None};
+ghost use Rattle.std.specs.Prelude.{◌≡◌, ⊤, None};
+ghost use Rattle.batcher_ffi.specs.Disks.{AreVerifiedAt, ListsDisk, MakesLoop};
+ghost use Rattle.batcher_ffi.specs.Forwarding.{AsksLacking};
 ghost use Rattle.batcher_ffi.specs.Handles.{OnLoop};
 ghost use Rattle.batcher_ffi.specs.Loops.{AreVerifiedFor, AreVerifiedIn, AsksCertified};
-ghost use Rattle.batcher_ffi.specs.Loops.{AsksEarlier, AsksKept, AsksListing, AsksWanted};
-ghost use Rattle.batcher_ffi.specs.Loops.{AsksMessage, AsksOwed, AsksViews, CastsOwn, Concludes};
-ghost use Rattle.batcher_ffi.specs.Loops.{EntersNext, Expires};
-ghost use Rattle.batcher_ffi.specs.Loops.{Gave, GivesHeld, HasNoHeld, HearsCertificate, HearsVote};
-ghost use Rattle.batcher_ffi.specs.Loops.{IsVerifiedFor, Judges, LendsIn, MakesLoop, Polls, Wrote};
-ghost use Rattle.batcher_ffi.specs.Loops.{hears_code};
+ghost use Rattle.batcher_ffi.specs.Loops.{AsksKept, AsksListing, AsksOwed, AsksViews, AsksWanted};
+ghost use Rattle.batcher_ffi.specs.Loops.{CastsOwn, Concludes, EntersNext, Expires};
+ghost use Rattle.batcher_ffi.specs.Loops.{Gave, GivesMessage, HearsCertificate, HearsVote};
+ghost use Rattle.batcher_ffi.specs.Loops.{IsVerifiedFor, Judges, LendsIn, Polls, Wrote};
+ghost use Rattle.batcher_ffi.specs.Loops.{hears_code, loop_namespace};
 ghost use Rattle.batcher_ffi.specs.Progress.{AsksProgress};
 
 use crate::codes::{DONE, NONE, OUT_OF_MEMORY};
 use crate::flat::{FlatAdmission, FlatAttestation, FlatProposal, FlatStep, FlatVote};
 use crate::handle::LoopHandle;
-use crate::loops::{self, LoopOptions};
 use crate::progress::FlatProgress;
+use crate::starting::LoopOptions;
 use crate::tasks::FlatTask;
+use crate::{disks, forwarding, loops};
 use std::alloc::Global;
 
-/// Makes a validator that begins, or that goes on by what its disk has. The handle's earlier one is
-/// freed.
+/// The votes that the disk of a validator shows: its own, and those that its certificates list.
+/// Each is to be verified before one is made that goes on by it.
+#[unsafe(no_mangle)]
+pub extern "C" fn batcher_loop_disk(
+    alloc: Global,
+    options: &LoopOptions,
+    namespace_bytes: &[u8],
+    disk: &[u8],
+    list: &mut [FlatVote],
+    count: &mut u64,
+) -> u8
+    ensures { ListsDisk options.now namespace_bytes.now disk.now result list.old list.new count.old
+        count.new }
+{
+    disks::list_disk(alloc, options, namespace_bytes, disk, list, count)
+}
+
+/// Makes a validator that begins, or that goes on by what its disk has, with a verdict on each vote
+/// that this shows. The handle's earlier one is freed.
 #[unsafe(no_mangle)]
 pub extern "C" fn batcher_loop_start(
     validator: &mut LoopHandle,
@@ -28,11 +47,13 @@ pub extern "C" fn batcher_loop_start(
     options: &LoopOptions,
     namespace_bytes: &[u8],
     disk: &[u8],
+    verdicts: &[bool],
 ) -> u8
-    ensures { MakesLoop validator.old.value validator.new.value result options.now
-        namespace_bytes.now disk.now }
+    requires { AreVerifiedAt options.now namespace_bytes.now disk.now verdicts.now }
+    ensures { MakesLoop options.now namespace_bytes.now disk.now validator.old.value
+        validator.new.value result verdicts.now }
 {
-    match loops::made(alloc, options, namespace_bytes, disk) {
+    match disks::started_by(alloc, options, namespace_bytes, disk, verdicts) {
         Ok(made) => match Box::new(alloc, made) {
             Ok(made) => {
                 validator.put(made);
@@ -216,8 +237,23 @@ pub extern "C" fn batcher_loop_conclude(
     loops::conclude(validator, alloc, kind, proposal, list, verdicts)
 }
 
-/// The bytes to sign for a subject, and to verify a signature on it. No other subject has the same
-/// ones, and none in another namespace.
+/// The bytes to sign for a subject in a namespace, and to verify a signature on it. No other
+/// subject has the same ones, and none in another namespace.
+#[unsafe(no_mangle)]
+pub extern "C" fn batcher_message(
+    namespace_bytes: &[u8],
+    kind: u8,
+    proposal: &FlatProposal,
+    room: &mut [u8],
+    count: &mut u64,
+) -> u8
+    ensures { GivesMessage namespace_bytes.now result kind proposal.now room.old room.new count.old
+        count.new }
+{
+    loops::message_in(namespace_bytes, kind, proposal, room, count)
+}
+
+/// The same in the namespace of the validator.
 #[unsafe(no_mangle)]
 pub extern "C" fn batcher_loop_message(
     validator: &mut LoopHandle,
@@ -227,8 +263,8 @@ pub extern "C" fn batcher_loop_message(
     count: &mut u64,
 ) -> u8
     ensures { OnLoop validator.old.value validator.new.value result ((room.new ≡ room.old)
-        × (count.new ≡ count.old)) (λ before after. (after ≡ before)
-        × AsksMessage before result kind proposal.now room.old room.new count.old count.new) }
+        × (count.new ≡ count.old)) (λ before after. (after ≡ before) × GivesMessage
+        (loop_namespace before) result kind proposal.now room.old room.new count.old count.new) }
 {
     let Some(validator) = validator.as_mut() else {
         return NONE;
@@ -363,46 +399,6 @@ pub extern "C" fn batcher_loop_certified(
     loops::certified(validator, kind, proposal)
 }
 
-/// The vote at a place among those of earlier lives, which its disk had: to be verified before
-/// the first poll.
-#[unsafe(no_mangle)]
-pub extern "C" fn batcher_loop_own_vote(
-    validator: &mut LoopHandle,
-    index: u64,
-    out: &mut FlatVote,
-) -> u8
-    ensures { OnLoop validator.old.value validator.new.value result (out.new ≡ out.old)
-        (λ before after. (after ≡ before) × AsksEarlier before result index out.old out.new) }
-{
-    let Some(validator) = validator.as_mut() else {
-        return NONE;
-    };
-    loops::own_vote(validator, index, out)
-}
-
-/// The certificate at a place among those that are kept: its kind, its bytes, and the proposal.
-/// Before the first poll they are those that its disk had.
-#[unsafe(no_mangle)]
-pub extern "C" fn batcher_loop_held(
-    validator: &mut LoopHandle,
-    index: u64,
-    kind: &mut u8,
-    proposal: &mut FlatProposal,
-    room: &mut [u8],
-    count: &mut u64,
-) -> u8
-    ensures { OnLoop validator.old.value validator.new.value result ((kind.new ≡ kind.old)
-        × ((proposal.new ≡ proposal.old) × ((room.new ≡ room.old) × (count.new ≡ count.old))))
-        (λ before after. (after ≡ before) × (GivesHeld before result index kind.old kind.new
-        proposal.old proposal.new room.old room.new count.new ⊎ HasNoHeld before result index
-        kind.old kind.new proposal.old proposal.new room.old room.new count.old count.new)) }
-{
-    let Some(validator) = validator.as_mut() else {
-        return NONE;
-    };
-    loops::held(validator, index, kind, proposal, room, count)
-}
-
 /// The certificate of this kind and of the round of the proposal, if one is kept: its bytes, and
 /// the whole proposal.
 #[unsafe(no_mangle)]
@@ -423,4 +419,24 @@ pub extern "C" fn batcher_loop_kept(
         return NONE;
     };
     loops::kept(validator, kind, proposal, room, count)
+}
+
+/// Who isn't known to have the payload of the proposal that is notarized in the round of this one:
+/// neither a vote that came shows it, nor the notarization.
+#[unsafe(no_mangle)]
+pub extern "C" fn batcher_loop_lacking(
+    validator: &mut LoopHandle,
+    alloc: Global,
+    proposal: &FlatProposal,
+    list: &mut [u32],
+    count: &mut u64,
+) -> u8
+    ensures { OnLoop validator.old.value validator.new.value result ((list.new ≡ list.old)
+        × (count.new ≡ count.old)) (λ before after. (after ≡ before)
+        × AsksLacking before result proposal.now list.old list.new count.old count.new) }
+{
+    let Some(validator) = validator.as_mut() else {
+        return NONE;
+    };
+    forwarding::lacking(validator, alloc, proposal, list, count)
 }

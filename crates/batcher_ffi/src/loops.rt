@@ -1,35 +1,27 @@
 //! The calls of a validator, over flat values. Each answers a code.
 
-ghost use Rattle.std.specs.Prelude.{◌≡◌, ◌≢◌, ◌<◌, ◌≤◌, ◌⊎◌, [], Err, IfErr, IfOk, MatchBool, None};
+ghost use Rattle.std.specs.Prelude.{◌≡◌, ◌≢◌, ◌<◌, ◌≤◌, ◌⊎◌, [], Err, MatchBool, None};
 ghost use Rattle.std.specs.Prelude.{Some, false, length, map, true};
-ghost use Rattle.batcher_types.specs.Votes.{attestation_of, content_of, round_in};
-ghost use Rattle.batcher_types.specs.Votes.{subject_certified, subject_of};
+ghost use Rattle.batcher_types.specs.Votes.{attestation_of};
+ghost use Rattle.batcher_types.specs.Votes.{subject_of};
 ghost use Rattle.batcher_validator.specs.Histories.{answered, refused};
-ghost use Rattle.batcher_validator.specs.Running.{HasConstructed};
+ghost use Rattle.batcher_validator.specs.Running.{HasConstructed, RunMeets};
 ghost use Rattle.batcher_voter.specs.Needing.{ConstructionNeeds};
-ghost use Rattle.batcher_ffi.specs.Loops.{AnswersPoll, AreDamaged, AreVerifiedFor, AsksCertified};
-ghost use Rattle.batcher_ffi.specs.Loops.{AsksEarlier, AsksKept, AsksMessage, AsksViews};
+ghost use Rattle.batcher_ffi.specs.Loops.{AnswersPoll, AreVerifiedFor, AsksCertified};
+ghost use Rattle.batcher_ffi.specs.Loops.{AsksKept, AsksViews, GivesMessage, loop_namespace};
 ghost use Rattle.batcher_ffi.specs.Loops.{AsksOwed, CastCode, CastsOwn, Concludes, EntersNext};
 ghost use Rattle.batcher_ffi.specs.Loops.{Expires};
-ghost use Rattle.batcher_ffi.specs.Loops.{GivesHeld, HasNoHeld};
-ghost use Rattle.batcher_ffi.specs.Flat.{subject_in};
-ghost use Rattle.batcher_ffi.specs.Output.{WritesAll};
 ghost use Rattle.batcher_ffi.specs.Loops.{AreVerifiedIn, AsksListing, AsksWanted, CertificateCame};
 ghost use Rattle.batcher_ffi.specs.Loops.{HearsCertificate, HearsVote, IsConcluded, IsFromAhead};
 ghost use Rattle.batcher_ffi.specs.Loops.{IsNotCopied, SaysIfWanted, is_over_in};
-ghost use Rattle.batcher_ffi.specs.Loops.{IsLent, IsMade, IsOfPeer, IsVerifiedFor, Judges, Lends};
+ghost use Rattle.batcher_ffi.specs.Loops.{IsLent, IsOfPeer, IsVerifiedFor, Judges, Lends};
 ghost use Rattle.batcher_ffi.specs.Flat.{kind_in};
 ghost use Rattle.batcher_ffi.specs.Loops.{Gave, Notes, Polls, LoopRests, ShowsKept, VoteCast};
-ghost use Rattle.batcher_ffi.specs.Loops.{WhyNotMade, Wrote};
-ghost use Rattle.batcher_ffi.specs.Loops.{loop_config, GoesOnFrom, IsLentOf, IsOf, IsOthers};
+ghost use Rattle.batcher_ffi.specs.Loops.{Wrote};
+ghost use Rattle.batcher_ffi.specs.Loops.{loop_config, IsLentOf};
 ghost use Rattle.batcher_ffi.specs.Loops.{LendsIn, LendsNone, LendsNoneOf, LendsOf, loop_copy};
-ghost use Rattle.batcher_ffi.specs.Loops.{loop_disk, loop_writing};
-ghost use Rattle.batcher_ffi.specs.Loops.{hears_code, loop_participants, start_code};
-ghost use Rattle.batcher_ffi.specs.Loops.{start_codes};
+ghost use Rattle.batcher_ffi.specs.Loops.{hears_code, loop_participants};
 ghost use Rattle.batcher_ffi.specs.Progress.{AsksProgress};
-ghost use Rattle.batcher_ffi.specs.Rounds.{is_one_of};
-ghost use Rattle.batcher_bytes.specs.declared.fault.DecodeFault.TheVariants.{Version};
-ghost use Rattle.batcher_journal.specs.Text.{fields_of, owner_format};
 ghost use Rattle.batcher_node.specs.Windows.{is_ahead};
 ghost use Rattle.batcher_ffi.specs.Tasks.{IsProposedIn};
 
@@ -37,9 +29,9 @@ use crate::answers::{ahead_code_of, enter_code_of, verdict_code_of, write_receip
 use crate::caller::Caller;
 use crate::certificates::{certifies, listing_of};
 use crate::codes::{
-    BEGUN, CLOSED, DAMAGED, DONE, DROPPED, ELSEWHERE, FORGED, FULL, IDLE, KNOWN, MALFORMED,
-    NOT_BEGUN, NOT_GIVEN, NOT_OWN, NOT_VERIFIED, NOT_WRITTEN, OTHER_OWNER, OTHER_VERSION,
-    OUT_OF_MEMORY, REFUSED, SHORT, SIGNED, STALE, UNKNOWN, VERIFY, WRITE,
+    CLOSED, DONE, DROPPED, ELSEWHERE, FORGED, FULL, IDLE, KNOWN, MALFORMED, NOT_GIVEN, NOT_OWN,
+    NOT_VERIFIED, NOT_WRITTEN, OUT_OF_MEMORY, REFUSED, SHORT, SIGNED, STALE, UNKNOWN, VERIFY,
+    WRITE,
 };
 use crate::flat::{
     FlatAdmission, FlatAttestation, FlatProposal, FlatStep, FlatVote, fault_code, flat_subject,
@@ -50,175 +42,17 @@ use crate::rounds::{is_verified, take_part};
 use crate::signing::write_message;
 use crate::tasks::FlatTask;
 use crate::writing::{attestations_of, copied, write_all, write_attestations, write_wanted};
-use batcher_bytes::{Keys, Proof, Signature, Signed, WIDTH};
-use batcher_journal::{OpenFault, Owner};
+use batcher_bytes::{Proof, Signature, Signed};
 use batcher_node::Cast;
 use batcher_types::messages::{Attestation, Certificate, Kind, Sha256Digest, Subject, Vote};
 use batcher_types::positions::{Epoch, Participant, Round, View};
-use batcher_types::scheme::{Counter, Name, names};
-use batcher_validator::{Loop, LoopFault, Next, PollFault};
-use batcher_voter::{CastFault, StartFault};
+use batcher_types::scheme::{Counter, Name};
+use batcher_validator::{Loop, Next, PollFault};
+use batcher_voter::CastFault;
 use std::alloc::Global;
-use std::rc::Rc;
 
 /// A validator as C has it.
 pub type Looping = Loop<Caller>;
-
-/// What a validator is made of.
-#[repr(C)]
-#[derive(Clone, Copy)]
-pub struct LoopOptions {
-    pub epoch: u64,
-    /// How many views beyond the current one are of its window.
-    pub ahead: u64,
-    /// How many participants there are, whose names are 0, 1, .. in this order.
-    pub participants: u32,
-    /// Which of them it is.
-    pub participant: u32,
-    /// Bytes that distinguish their list of keys from other lists, as its hash does.
-    pub keys: [u8; 32],
-    /// Whether a view keeps its votes in full to the end.
-    pub track_historical_votes: bool,
-    /// Whether this participant never signed anything in the epoch, so that its disk has no bytes.
-    pub begins: bool,
-}
-
-/// A validator that begins, or goes on by what its disk has. Else the code says why there is none.
-pub fn made(
-    alloc: Global,
-    options: &LoopOptions,
-    namespace: &[u8],
-    disk: &[u8],
-) -> Result<Looping, u8>
-    ensures made { IfOk result (IsMade options.now namespace.now disk.now) }
-    ensures refused { IfErr result (WhyNotMade options.now namespace.now disk.now) }
-{
-    if options.participant >= options.participants {
-        return Err(MALFORMED);
-    }
-    if options.begins && !disk.is_empty() {
-        return Err(BEGUN);
-    }
-    if !options.begins && disk.is_empty() {
-        return Err(NOT_BEGUN);
-    }
-    let Ok(names) = names(alloc, options.participants) else {
-        return Err(OUT_OF_MEMORY);
-    };
-    let Ok(scheme) = Rc::new(alloc, Signed::new(names, Keys(options.keys))) else {
-        return Err(OUT_OF_MEMORY);
-    };
-    let keys = options.keys;
-    let owner = Owner {
-        namespace,
-        keys: &keys,
-        participant: Participant(options.participant),
-        digest_len: 32,
-        signature_len: WIDTH as u32,
-    };
-    if options.begins {
-        return begun(alloc, scheme, options, &owner);
-    }
-    started(alloc, scheme, options, &owner, disk)
-}
-
-fn begun(
-    alloc: Global,
-    scheme: Rc<Signed<Caller, true>>,
-    options: &LoopOptions,
-    owner: &Owner,
-) -> Result<Looping, u8>
-    requires { 1 ≤ length scheme.value.participants }
-    ensures is_of { IfOk result (IsOf options.now scheme.value (fields_of owner.now)) }
-    ensures goes_on { IfOk result (GoesOnFrom true []) }
-    ensures on_disk { IfOk result (λ it. (loop_disk it ≡ []) × (loop_writing it ≡ None)) }
-    ensures refused { IfErr result (λ code. code ≡ OUT_OF_MEMORY) }
-{
-    match Loop::begin(
-        alloc,
-        scheme,
-        options.ahead,
-        options.track_historical_votes,
-        owner,
-        Epoch(options.epoch),
-    ) {
-        Ok(it) => Ok(it),
-        // Its journal is its own, and in memory.
-        Err(_) => Err(OUT_OF_MEMORY),
-    }
-}
-
-fn started(
-    alloc: Global,
-    scheme: Rc<Signed<Caller, true>>,
-    options: &LoopOptions,
-    owner: &Owner,
-    disk: &[u8],
-) -> Result<Looping, u8>
-    requires { 1 ≤ length scheme.value.participants }
-    ensures is_of { IfOk result (IsOf options.now scheme.value (fields_of owner.now)) }
-    ensures goes_on { IfOk result (GoesOnFrom false disk.now) }
-    ensures on_disk { IfOk result (λ it.
-        (loop_disk it ≡ disk.now) × (loop_writing it ≡ None)) }
-    ensures refused { IfErr result (λ code. is_one_of start_codes code ≡ true) }
-    ensures not_begun { IfErr result (λ code. code ≡ NOT_BEGUN → disk.now ≡ []) }
-    ensures others { IfErr result (λ code. code ≡ OTHER_OWNER
-        → IsOthers options.now (fields_of owner.now) disk.now) }
-    ensures other_version { IfErr result (λ code. code ≡ OTHER_VERSION
-        → owner_format.decoding disk.now ≡ Err Version) }
-    ensures damaged { IfErr result (λ code. code ≡ DAMAGED
-        → AreDamaged (fields_of owner.now) disk.now) }
-{
-    let Ok(bytes) = copied(alloc, disk) else {
-        return Err(OUT_OF_MEMORY);
-    };
-    match Loop::start(
-        alloc,
-        scheme,
-        options.ahead,
-        options.track_historical_votes,
-        owner,
-        bytes,
-    ) {
-        Ok(it) => {
-            if is_of_epoch(&it, Epoch(options.epoch)) {
-                return Ok(it);
-            }
-            drop(it);
-            Err(OTHER_OWNER)
-        }
-        Err(fault) => Err(start_code_of(fault)),
-    }
-}
-
-fn is_of_epoch(it: &Looping, epoch: Epoch) -> bool
-    ensures { MatchBool result (it.now.validator.voter.node.epoch ≡ epoch)
-        (it.now.validator.voter.node.epoch ≢ epoch) }
-{
-    it.validator.voter().epoch() == epoch
-}
-
-fn start_code_of(fault: LoopFault) -> u8
-    ensures code { result ≡ start_code fault }
-    ensures codes { is_one_of start_codes result ≡ true }
-{
-    match fault {
-        LoopFault::OutOfMemory => OUT_OF_MEMORY,
-        LoopFault::NotOpened(OpenFault::OutOfMemory) => OUT_OF_MEMORY,
-        LoopFault::NotOpened(OpenFault::NotBegun) => NOT_BEGUN,
-        LoopFault::NotOpened(OpenFault::OtherVersion) => OTHER_VERSION,
-        LoopFault::NotOpened(
-            OpenFault::OtherLengths
-            | OpenFault::OtherParticipant
-            | OpenFault::OtherKeys
-            | OpenFault::OtherNamespace,
-        ) => OTHER_OWNER,
-        LoopFault::NotOpened(OpenFault::Malformed | OpenFault::Contradiction) => DAMAGED,
-        LoopFault::NotStarted(StartFault::OutOfMemory) => OUT_OF_MEMORY,
-        LoopFault::NotStarted(StartFault::NotFinal | StartFault::Malformed | StartFault::Forged) =>
-            DAMAGED,
-    }
-}
 
 /// What is to be done next.
 pub fn poll(it: &mut Looping, out: &mut FlatTask) -> u8
@@ -612,18 +446,18 @@ pub fn cast(it: &mut Looping, vote: &FlatVote, attests: bool) -> u8
         return MALFORMED;
     };
     if !is_verified(&typed, attests, it.validator.participants()) {
-        return refuse(it, &typed);
+        refuse(it, &typed);
+        return NOT_VERIFIED;
     }
     cast_verified(it, typed)
 }
 
-fn refuse(it: &mut Looping, vote: &Vote<Signature, Sha256Digest>) -> u8
-    ensures codes { result ≡ NOT_VERIFIED }
-    ensures refuses { Notes it.old result it.new (refused (subject_of vote.now)) }
+fn refuse(it: &mut Looping, vote: &Vote<Signature, Sha256Digest>)
+    ensures refuses { RunMeets (loop_config it.old) it.old.validator it.new.validator
+        (refused (subject_of vote.now)) }
     ensures unwritten { it.new.validator.voter ≡ it.old.validator.voter }
 {
     it.validator.refuse(&vote.subject());
-    NOT_VERIFIED
 }
 
 fn cast_verified(it: &mut Looping, vote: Vote<Signature, Sha256Digest>) -> u8
@@ -663,13 +497,31 @@ pub fn message(
     room: &mut [u8],
     count: &mut u64,
 ) -> u8
-    ensures { AsksMessage it.now result kind proposal.now room.old room.new count.old count.new }
+    ensures { GivesMessage (loop_namespace it.now) result kind proposal.now room.old room.new
+        count.old count.new }
+{
+    message_in(
+        it.validator.voter().journal().namespace(),
+        kind,
+        proposal,
+        room,
+        count,
+    )
+}
+
+/// The bytes to sign for a subject, in a namespace.
+pub fn message_in(
+    namespace: &[u8],
+    kind: u8,
+    proposal: &FlatProposal,
+    room: &mut [u8],
+    count: &mut u64,
+) -> u8
+    ensures { GivesMessage namespace.now result kind proposal.now room.old room.new count.old
+        count.new }
 {
     match subject_of(kind, proposal) {
-        Some(subject) => {
-            let namespace = it.validator.voter().journal().namespace();
-            write_message(namespace, &subject, room, count)
-        }
+        Some(subject) => write_message(namespace, &subject, room, count),
         None => MALFORMED,
     }
 }
@@ -736,63 +588,6 @@ pub fn certified(it: &Looping, kind: u8, proposal: &mut FlatProposal) -> u8
         }
         None => IDLE,
     }
-}
-
-/// The vote at a place among those of earlier lives.
-pub fn own_vote(it: &Looping, index: u64, out: &mut FlatVote) -> u8
-    ensures { AsksEarlier it.now result index out.old out.new }
-{
-    match it.validator.earlier_votes().get(index as usize) {
-        Some(vote) => {
-            out.write(vote);
-            DONE
-        }
-        None => IDLE,
-    }
-}
-
-/// The certificate at a place among those that are kept, where all is written.
-pub fn held(
-    it: &Looping,
-    index: u64,
-    kind: &mut u8,
-    proposal: &mut FlatProposal,
-    room: &mut [u8],
-    count: &mut u64,
-) -> u8
-    ensures { GivesHeld it.now result index kind.old kind.new proposal.old proposal.new room.old
-        room.new count.new ⊎ HasNoHeld it.now result index kind.old kind.new proposal.old
-        proposal.new room.old room.new count.old count.new }
-{
-    if it.is_written() {
-        return match it.validator.certificates().get(index as usize) {
-            Some(certificate) => write_held(certificate, kind, proposal, room, count),
-            None => IDLE,
-        };
-    }
-    NOT_WRITTEN
-}
-
-fn write_held(
-    certificate: &Certificate<Proof, Sha256Digest>,
-    kind: &mut u8,
-    proposal: &mut FlatProposal,
-    room: &mut [u8],
-    count: &mut u64,
-) -> u8
-    ensures bytes { WritesAll (content_of certificate.now).bytes room.old room.new count.new
-        result }
-    ensures subject { result ≡ DONE → subject_in kind.new proposal.new
-        ≡ Some (subject_certified certificate.now) }
-    ensures short { result ≡ SHORT → (kind.new ≡ kind.old) × (proposal.new ≡ proposal.old) }
-{
-    let code = write_all(certificate.content().bytes(), room, count);
-    if code == DONE {
-        let (code, whole) = flat_subject(&certificate.subject());
-        *kind = code;
-        *proposal = whole;
-    }
-    code
 }
 
 /// The certificate of this kind and of the round of the proposal, if one is kept. It may have an

@@ -61,6 +61,16 @@ pub(crate) struct Loop {
 }
 
 unsafe extern "C" {
+    fn batcher_loop_disk(
+        options: *const LoopOptions,
+        namespace: *const u8,
+        namespace_length: usize,
+        disk: *const u8,
+        disk_length: usize,
+        list: *mut Vote,
+        list_length: usize,
+        count: *mut u64,
+    ) -> u8;
     fn batcher_loop_start(
         validator: *mut LoopHandle,
         options: *const LoopOptions,
@@ -68,6 +78,8 @@ unsafe extern "C" {
         namespace_length: usize,
         disk: *const u8,
         disk_length: usize,
+        verdicts: *const bool,
+        verdicts_length: usize,
     ) -> u8;
     fn batcher_loop_free(validator: *mut LoopHandle);
     fn batcher_loop_poll(validator: *mut LoopHandle, task: *mut Task) -> u8;
@@ -127,6 +139,15 @@ unsafe extern "C" {
         verdicts: *const bool,
         verdicts_length: usize,
     ) -> u8;
+    fn batcher_message(
+        namespace: *const u8,
+        namespace_length: usize,
+        kind: u8,
+        proposal: *const Proposal,
+        room: *mut u8,
+        room_length: usize,
+        count: *mut u64,
+    ) -> u8;
     fn batcher_loop_message(
         validator: *const LoopHandle,
         kind: u8,
@@ -152,22 +173,19 @@ unsafe extern "C" {
         kind: u8,
         proposal: *mut Proposal,
     ) -> u8;
-    fn batcher_loop_own_vote(validator: *const LoopHandle, index: u64, out: *mut Vote) -> u8;
-    fn batcher_loop_held(
-        validator: *const LoopHandle,
-        index: u64,
-        kind: *mut u8,
-        proposal: *mut Proposal,
-        room: *mut u8,
-        room_length: usize,
-        count: *mut u64,
-    ) -> u8;
     fn batcher_loop_kept(
         validator: *const LoopHandle,
         kind: u8,
         proposal: *mut Proposal,
         room: *mut u8,
         room_length: usize,
+        count: *mut u64,
+    ) -> u8;
+    fn batcher_loop_lacking(
+        validator: *const LoopHandle,
+        proposal: *const Proposal,
+        list: *mut u32,
+        list_length: usize,
         count: *mut u64,
     ) -> u8;
 }
@@ -182,13 +200,42 @@ impl Drop for Loop {
 
 // As of the calls of a round.
 impl Loop {
+    /// The votes that a disk shows, where there is room for all. Else how many they are.
+    pub(crate) fn disk(
+        options: &LoopOptions,
+        namespace: &[u8],
+        disk: &[u8],
+        list: &mut [Vote],
+        count: &mut u64,
+    ) -> u8 {
+        super::batcher_abi_7();
+        // SAFETY: as above, and each list is as long as is said.
+        unsafe {
+            batcher_loop_disk(
+                options,
+                namespace.as_ptr(),
+                namespace.len(),
+                disk.as_ptr(),
+                disk.len(),
+                list.as_mut_ptr(),
+                list.len(),
+                count,
+            )
+        }
+    }
+
     /// A validator, or the code that was answered.
-    pub(crate) fn start(options: &LoopOptions, namespace: &[u8], disk: &[u8]) -> Result<Self, u8> {
+    pub(crate) fn start(
+        options: &LoopOptions,
+        namespace: &[u8],
+        disk: &[u8],
+        verdicts: &[bool],
+    ) -> Result<Self, u8> {
         let handle = LoopHandle {
             at: ptr::null_mut(),
         };
         let mut made = Loop { handle };
-        super::batcher_abi_6();
+        super::batcher_abi_7();
         // SAFETY: as above; an empty handle is a null pointer.
         let answer = unsafe {
             batcher_loop_start(
@@ -198,6 +245,8 @@ impl Loop {
                 namespace.len(),
                 disk.as_ptr(),
                 disk.len(),
+                verdicts.as_ptr(),
+                verdicts.len(),
             )
         };
         match answer {
@@ -363,25 +412,6 @@ impl Loop {
         unsafe { batcher_loop_certified(&self.handle, kind, proposal) }
     }
 
-    pub(crate) fn own_vote(&self, index: u64, out: &mut Vote) -> u8 {
-        // SAFETY: as above.
-        unsafe { batcher_loop_own_vote(&self.handle, index, out) }
-    }
-
-    pub(crate) fn held(
-        &self,
-        index: u64,
-        kind: &mut u8,
-        proposal: &mut Proposal,
-        bytes: &mut Vec<u8>,
-        count: &mut u64,
-    ) -> u8 {
-        write_into(bytes, count, |room, length, count| {
-            // SAFETY: as above, and the room is as long as is said.
-            unsafe { batcher_loop_held(&self.handle, index, kind, proposal, room, length, count) }
-        })
-    }
-
     pub(crate) fn kept(
         &self,
         kind: u8,
@@ -394,6 +424,27 @@ impl Loop {
             unsafe { batcher_loop_kept(&self.handle, kind, proposal, room, length, count) }
         })
     }
+
+    pub(crate) fn lacking(&self, proposal: &Proposal, list: &mut [u32], count: &mut u64) -> u8 {
+        let (to, length) = (list.as_mut_ptr(), list.len());
+        // SAFETY: as above, and the list is as long as is said.
+        unsafe { batcher_loop_lacking(&self.handle, proposal, to, length, count) }
+    }
+}
+
+/// The bytes to sign for a subject in a namespace.
+pub(crate) fn message(
+    namespace: &[u8],
+    kind: u8,
+    proposal: &Proposal,
+    bytes: &mut Vec<u8>,
+    count: &mut u64,
+) -> u8 {
+    write_into(bytes, count, |room, length, count| {
+        let (from, its_length) = (namespace.as_ptr(), namespace.len());
+        // SAFETY: the namespace and the room are as long as is said.
+        unsafe { batcher_message(from, its_length, kind, proposal, room, length, count) }
+    })
 }
 
 /// Has bytes written into the room of a list, where they fit there. The room isn't set to zero

@@ -2,8 +2,8 @@ use Rattle.batcher_ffi.proofs.Words.{◌≡◌, ◌∙◌, arith, subst, sym}
 use Rattle.std.specs.Prelude.{◌≢◌, ◌<◌, [], MatchBool, true, false}
 use Rattle.batcher_ffi.proofs.Unmade.{not_made}
 use Rattle.batcher_voter.proofs.Unstarted.{some_bytes}
-use Rattle.batcher_ffi.proofs.loops.made.Goals.{else-not-options-via-then-not-options+else-is_empty, else-not-options-via-else-not-options}
-use Rattle.batcher_ffi.proofs.loops.made.Goals as goal
+use Rattle.batcher_ffi.proofs.starting.made.Goals.{else-not-options-via-then-not-options+else-is_empty, else-not-options-via-else-not-options}
+use Rattle.batcher_ffi.proofs.starting.made.Goals as goal
 
 pub returns-clause-refused : goal.returns-clause-refused
 returns-clause-refused c =

@@ -1,6 +1,6 @@
 use Rattle.batcher_ffi.proofs.Words.{◌∙◌, Err, ap, inl, subst, sym, signature_format, same_digest, sha256_format, vote_format, Cause, fields_of, HasNoVoter}
 use Rattle.batcher_ffi.proofs.Others.{are_damaged, is_anothers, is_other_version}
-use Rattle.batcher_ffi.proofs.loops.started.Goals as goal
+use Rattle.batcher_ffi.proofs.starting.started.Goals as goal
 
 pub returns-in-Err-clause-others : goal.returns-in-Err-clause-others
 returns-in-Err-clause-others c = λ other.
