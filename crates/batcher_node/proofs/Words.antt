@@ -91,7 +91,7 @@ pub use Rattle.batcher_node.specs.Represents.{NodeMeets, SimulatesCast, Simulate
 pub use Rattle.batcher_node.specs.Represents.{ForSomeNodeHistory, IsNode, is_unblocked, mode_of}
 pub use Rattle.batcher_node.specs.Sending.{ToSendAgree, to_send_by, view_of, votes_to_send, HearsOnly, HoldsCertified, SendsWhatIsToSend, HearsWhatIsToSend}
 pub use Rattle.batcher_node.specs.SendingExamples.{of_four, sent, heard, SendingExamples}
-pub use Rattle.batcher_node.specs.Verdicts.{LooksAtThere, MayBeQuorumThere}
+pub use Rattle.batcher_node.specs.Verdicts.{LooksAtThere}
 pub use Rattle.batcher_node.specs.Windows.{contains, numbered, is_ahead, is_of, entered, finalized, width, mode_now}
 pub use Rattle.batcher_node.specs.declared.answers.Cast.{Cast}
 pub use Rattle.batcher_node.specs.declared.answers.Cast.TheVariants.{ToSend}

@@ -5,7 +5,7 @@ use Rattle.batcher.specs.messages.Kind.{Kind}
 use Rattle.batcher.specs.messages.Subject.{Subject}
 use Rattle.batcher.specs.Config.{Config}
 use Rattle.batcher.specs.RoundState.{RoundView}
-use Rattle.batcher.specs.Verdicts.{LooksAtKind, LooksAtNext, MayBeQuorumNext}
+use Rattle.batcher.specs.Verdicts.{LooksAtKind, LooksAtNext}
 use Rattle.batcher_node.specs.declared.slot.Slot.{Slot}
 
 module _ {S D K G C : Type 0} (round_config : RoundView S G D → Config D K G C)
@@ -24,9 +24,3 @@ module _ {S D K G C : Type 0} (round_config : RoundView S G D → Config D K G C
     pub slot : Slot (RoundView S G D)
     pub there : at ≡ Some slot
     pub looks : LooksAtKind (round_config slot.round) slot.round.holds kind subject list
-
-  -- There is a round, of which all that its next construction looks at could be a quorum.
-  pub record MayBeQuorumThere : Type 0 where
-    pub slot : Slot (RoundView S G D)
-    pub there : at ≡ Some slot
-    pub enough : MayBeQuorumNext (round_config slot.round) slot.round.holds

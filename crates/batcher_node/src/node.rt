@@ -3,7 +3,7 @@
 ghost use Rattle.std.specs.Prelude.{◌≡◌, ◌≤◌, ◌<◌, ◌∷◌, [], true, false, cond, ◌==◌, ℕ, length};
 ghost use Rattle.std.specs.Prelude.{map, IfOk, IfErr, OnOk, OnErr, IfSome, IfNone, Some, None, Ok};
 ghost use Rattle.std.specs.Prelude.{Err, is_some, ◌≢◌};
-ghost use Rattle.std.specs.List.{list_any, range_with_len};
+ghost use Rattle.std.specs.List.{list_any};
 ghost use Rattle.std.specs.Option.{option_map, option_copied, option_or};
 ghost use Rattle.std.specs.List.Sorted.{IsStrictlySortedBy};
 ghost use Rattle.std.specs.Ordering.{nat_cmp};
@@ -15,22 +15,18 @@ ghost use Rattle.batcher.specs.calls.Call.TheVariants.{Certificate as Certificat
 ghost use Rattle.batcher.specs.Steps.{fault_or_memory};
 ghost use Rattle.batcher_node.specs.declared.answers.Cause.TheVariants.{Vote as ForVote};
 ghost use Rattle.batcher_node.specs.declared.answers.Cause.TheVariants.{Signature as ForSignature};
-ghost use Rattle.batcher_node.specs.declared.answers.EnterFault.TheVariants.{Passed as PassedFault};
-ghost use Rattle.batcher_node.specs.declared.answers.EnterFault.TheVariants.{LeaderChanged as LeaderChangedFault};
-ghost use Rattle.batcher_node.specs.declared.answers.EnterFault.TheVariants.{OutOfMemory as OutOfMemoryFault};
 ghost use Rattle.batcher_node.specs.Windows.{is_of, width, contains, numbered};
 ghost use Rattle.batcher_node.specs.Events.{peer_in, invalid_in, started, vote_came};
 ghost use Rattle.batcher_node.specs.Events.{certificate_came, view_entered, view_finalized};
 ghost use Rattle.batcher_node.specs.Events.{constructed, forgery_came, view_history};
-ghost use Rattle.batcher_node.specs.Nodes.{SameNode, IsAtRest, HasChanged, IsNext, Draws};
+ghost use Rattle.batcher_node.specs.Nodes.{SameNode, IsAtRest, IsNext, Draws};
 ghost use Rattle.batcher_node.specs.Nodes.{IsLedByAnother, cause_at, slot_at};
 ghost use Rattle.batcher_node.specs.Represents.{cast_by, NodeMeets, SimulatesCast};
 ghost use Rattle.batcher_node.specs.Represents.{SimulatesForward, NodeRepresents};
 ghost use Rattle.batcher_node.specs.Represents.{ForEachNodeHistory, IsHeard, MayNeedIn};
 ghost use Rattle.batcher_node.specs.Represents.{NextMayNeed, config_of, ForSomeNodeHistory};
 ghost use Rattle.batcher_node.specs.Represents.{ahead_answer, is_heard};
-ghost use Rattle.batcher_node.specs.Verdicts.{LooksAtThere, MayBeQuorumThere};
-ghost use Rattle.batcher.specs.VerifierSteps.{certificate_for};
+ghost use Rattle.batcher_node.specs.Verdicts.{LooksAtThere};
 ghost use Rattle.batcher.specs.Verdicts.{BatchIsAssembled};
 ghost use Rattle.batcher_node.specs.NodePromises.{HadGivenCause, IsComplete, KeepsPromises};
 
@@ -544,48 +540,6 @@ where
         let (view, batch) = (View(next), Some(batch));
         block_named(&mut self.blocked, &batch);
         Ok(Some(Construction { view, batch }))
-    }
-
-    /// Makes the construction of the next view by a certificate that was made elsewhere, of all
-    /// that the `next_attempt` of its round lends, as schemes that aggregate do. It takes no memory
-    /// and draws nothing.
-    ///
-    /// None where the subject and the list aren't those of that attempt, or where all that it lends
-    /// is too little for a quorum. Then nothing changes.
-    pub fn conclude_with(
-        &mut self,
-        subject: Subject<D>,
-        list: &[Attestation<S::Signature>],
-        certificate: S::Certificate,
-    ) -> Option<Construction<S::Certificate, D>>
-        requires { (S.meaning self.old.scheme).certifies subject certificate ≡ true }
-        ensures meets { IfSome result
-            (λ one. NodeMeets (⟦<S as NodeConfigs<D>>⟧.of self.old) self.old
-            (constructed one.view.0 one.batch) self.new) }
-        ensures gives { IfSome result (λ one. IfSome one.batch (λ batch. batch.certificate
-            ≡ Some (certificate_for subject certificate))) }
-        ensures constructs { IfSome result (λ one. is_some one.batch ≡ true) }
-        ensures next { IfSome result (λ one. IsNext self.old.rounds one.view.0) }
-        ensures looks_at { IfSome result (λ one. LooksAtThere ⟦<S as RoundConfigs<D>>⟧.of
-            (slot_at self.old.rounds one.view.0) subject list.now) }
-        ensures not_stale { (view : ℕ) → IsNext self.old.rounds view
-            → LooksAtThere ⟦<S as RoundConfigs<D>>⟧.of (slot_at self.old.rounds view) subject
-            list.now
-            → MayBeQuorumThere ⟦<S as RoundConfigs<D>>⟧.of (slot_at self.old.rounds view)
-            → is_some result ≡ true }
-        ensures stale { result ≡ None → self.new ≡ self.old }
-        ensures same { SameNode self.old self.new }
-    {
-        let Some(next) = self.rounds.next() else {
-            return None;
-        };
-        let made = self.rounds.conclude_with(next, subject, list, certificate);
-        let Some(batch) = made else {
-            return None;
-        };
-        let (view, batch) = (View(next), Some(batch));
-        block_named(&mut self.blocked, &batch);
-        Some(Construction { view, batch })
     }
 }
 

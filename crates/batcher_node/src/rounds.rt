@@ -1,12 +1,9 @@
 //! The rounds of a node's views, each of which takes what is said in its view.
 
-ghost use Rattle.std.specs.Prelude.{◌≡◌, ◌≢◌, ◌≤◌, ◌<◌, ℕ, false, length, [], None, find, map};
-ghost use Rattle.std.specs.Prelude.{is_some, true, Some, Ok, MatchOption, IfOk, IfErr, OnOk, OnErr};
+ghost use Rattle.std.specs.Prelude.{◌≡◌, ◌≤◌, ◌<◌, ℕ, false, length, [], None, map};
+ghost use Rattle.std.specs.Prelude.{is_some, true, Some, Ok, MatchOption, IfOk, IfErr, OnErr};
 ghost use Rattle.std.specs.Prelude.{IfSome, IfNone};
-ghost use Rattle.std.specs.Option.{option_map};
 ghost use Rattle.std.specs.Ordering.{nat_cmp};
-ghost use Rattle.std.specs.Map.{keys_of};
-ghost use Rattle.std.specs.List.Sorted.{IsStrictlySortedBy};
 ghost use Rattle.std.specs.BTreeMap.{get};
 ghost use Rattle.std.specs.BinaryHeap.{heap_items, heap_capacity};
 ghost use Rattle.batcher_node.specs.Due.{ListsChanged};
@@ -19,12 +16,11 @@ ghost use Rattle.batcher.specs.Represents.{Represents};
 ghost use Rattle.batcher.specs.RoundContracts.{ForEachHistory};
 ghost use Rattle.batcher.specs.Selection.{is_certified};
 ghost use Rattle.batcher.specs.Verifiers.{certifies_itself, IfGiven};
-ghost use Rattle.batcher_node.specs.Windows.{is_ahead, is_of, entered, finalized, numbered};
+ghost use Rattle.batcher_node.specs.Windows.{is_ahead, is_of, finalized, numbered};
 ghost use Rattle.batcher_node.specs.Nodes.{fresh_round, IsNext, IsTended, MakesCall};
 ghost use Rattle.batcher_node.specs.Nodes.{MakesCallThere, NeedsThere, Refuses, Draws, HasChanged};
 ghost use Rattle.batcher_node.specs.Nodes.{IsAtRest, slot_at};
-ghost use Rattle.batcher_node.specs.Verdicts.{LooksAtThere, MayBeQuorumThere};
-ghost use Rattle.batcher.specs.VerifierSteps.{certificate_for};
+ghost use Rattle.batcher_node.specs.Verdicts.{LooksAtThere};
 ghost use Rattle.batcher.specs.Verdicts.{BatchIsAssembled};
 ghost use Rattle.batcher_node.specs.NodePromises.{HoldsOfAll, IsNodePromised, IsComplete};
 
@@ -347,53 +343,6 @@ where
                 Ok(Some(batch))
             }
             None => Ok(None),
-        }
-    }
-
-    /// The same by a certificate that was made elsewhere. It takes no memory.
-    pub(crate) fn conclude_with(
-        &mut self,
-        view: u64,
-        subject: Subject<D>,
-        list: &[Attestation<S::Signature>],
-        certificate: S::Certificate,
-    ) -> Option<Batch<Certificate<S::Certificate, D>>>
-        requires tended { IsTended (length (S.meaning self.old.scheme.value).participants)
-            self.old.scheme.value self.old.epoch self.old.window self.old.slots.entries }
-        requires listed { ListsChanged (heap_items self.old.due.views)
-            (heap_capacity self.old.due.views) self.old.slots.entries }
-        requires next { IsNext self.old.slots.entries view }
-        requires certifies { (S.meaning self.old.scheme.value).certifies subject certificate
-            ≡ true }
-        ensures listed { ListsChanged (heap_items self.new.due.views)
-            (heap_capacity self.new.due.views) self.new.slots.entries }
-        ensures makes_call { IfSome result (λ batch. MakesCallThere ⟦<S as RoundConfigs<D>>⟧.of
-            (get nat_cmp self.old.slots) (get nat_cmp self.new.slots) view
-            ConstructCall (ConstructAnswer (Some batch))) }
-        ensures gives { IfSome result (λ batch. batch.certificate
-            ≡ Some (certificate_for subject certificate)) }
-        ensures looks_at { is_some result ≡ true → LooksAtThere ⟦<S as RoundConfigs<D>>⟧.of
-            (get nat_cmp self.old.slots view) subject list.now }
-        ensures not_stale { LooksAtThere ⟦<S as RoundConfigs<D>>⟧.of
-            (get nat_cmp self.old.slots view) subject list.now
-            → MayBeQuorumThere ⟦<S as RoundConfigs<D>>⟧.of (get nat_cmp self.old.slots view)
-            → is_some result ≡ true }
-        ensures stale { result ≡ None → self.new.slots.entries ≡ self.old.slots.entries }
-        ensures same { self.new ≡ record self.old {
-          slots = self.new.slots;
-          due = self.new.due;
-        } }
-    {
-        match self.slots.get_mut(&view) {
-            Some(slot) => {
-                let made = slot.round.conclude_with(subject, list, certificate);
-                let Some(batch) = made else {
-                    return None;
-                };
-                slot.changed = true;
-                Some(batch)
-            }
-            None => None,
         }
     }
 }

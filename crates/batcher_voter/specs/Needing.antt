@@ -37,10 +37,3 @@ module _ {S D K G C L : Type 0} (x : NodeConfig D K G C) (voter : VoterView S G 
     pub view : ℕ
     pub next : IsNext voter.node.rounds view
     pub needs : HasRoom voter.knowledge view → voter.waits ≡ None → NextMayNeed x voter.node
-
--- There is no room yet for what may be learned of the view of the next construction, or a
--- certificate waits to be kept.
-pub record NeedsRoom {S G D L : Type 0} (voter : VoterView S G D L) : Type 0 where
-  pub view : ℕ
-  pub next : IsNext voter.node.rounds view
-  pub no_room : HasRoom voter.knowledge view → voter.waits ≡ None → ⊥

@@ -1,16 +1,15 @@
-//! The constructions of a voter's node by verdicts, or by a certificate, from elsewhere.
+//! The constructions of a voter's node by verdicts from elsewhere.
 
 ghost use Rattle.std.specs.Prelude.{◌≡◌, IfOk, IfSome, None, Ok, OnErr, Some, is_some, map, true};
 ghost use Rattle.std.specs.Prelude.{ℕ};
-ghost use Rattle.batcher.specs.VerifierSteps.{certificate_for};
 ghost use Rattle.batcher.specs.Verdicts.{BatchIsAssembled};
 ghost use Rattle.batcher.specs.Verifiers.{IfGiven};
 ghost use Rattle.batcher_node.specs.Events.{constructed};
 ghost use Rattle.batcher_node.specs.Nodes.{IsNext, SameNode, slot_at};
 ghost use Rattle.batcher_node.specs.Represents.{NodeMeets, NextMayNeed};
-ghost use Rattle.batcher_node.specs.Verdicts.{LooksAtThere, MayBeQuorumThere};
+ghost use Rattle.batcher_node.specs.Verdicts.{LooksAtThere};
 ghost use Rattle.batcher_voter.specs.Knowledge.{HasRoom};
-ghost use Rattle.batcher_voter.specs.Needing.{ConstructionNeeds, NeedsRoom};
+ghost use Rattle.batcher_voter.specs.Needing.{ConstructionNeeds};
 ghost use Rattle.batcher_voter.specs.Voting.{IsOfItsView, VoterMeets, VoterStays};
 ghost use Rattle.batcher_bytes.specs.Copies.{KeepsCopy};
 
@@ -200,178 +199,6 @@ where
     {
         self.node.promises();
         let made = self.node.conclude(subject, list, verdicts);
-        self.node.promises();
-        made
-    }
-
-    /// Makes the construction of the next view by a certificate that was made elsewhere, as the
-    /// node does, of all that the `next_attempt` of its round lends. It is learned, so room for it
-    /// is made first, and kept as that of `try_construct` is.
-    ///
-    /// None where the subject and the list aren't those of that attempt, or where all that it lends
-    /// is too little for a quorum.
-    pub fn conclude_with(
-        &mut self,
-        subject: Subject<D>,
-        list: &[Attestation<S::Signature>],
-        certificate: S::Certificate,
-        waiting: Option<&Certificate<S::Certificate, D>>,
-    ) -> Result<Option<Construction<S::Certificate, D>>, AllocError>
-        requires { (S.meaning self.old.node.scheme).certifies subject certificate ≡ true }
-        ensures meets { IfGiven result (λ one.
-            VoterMeets (⟦<S as NodeConfigs<D>>⟧.of self.old.node) self.old self.new
-            (constructed one.view.0 one.batch)) }
-        ensures gives { IfGiven result (λ one. IfSome one.batch (λ batch. batch.certificate
-            ≡ Some (certificate_for subject certificate))) }
-        ensures constructs { IfGiven result (λ one. is_some one.batch ≡ true) }
-        ensures next { IfGiven result (λ one. IsNext self.old.node.rounds one.view.0) }
-        ensures looks_at { IfGiven result (λ one. LooksAtThere ⟦<S as RoundConfigs<D>>⟧.of
-            (slot_at self.old.node.rounds one.view.0) subject list.now) }
-        ensures not_stale { (view : ℕ) → IsNext self.old.node.rounds view
-            → LooksAtThere ⟦<S as RoundConfigs<D>>⟧.of (slot_at self.old.node.rounds view) subject
-            list.now
-            → MayBeQuorumThere ⟦<S as RoundConfigs<D>>⟧.of (slot_at self.old.node.rounds view)
-            → IfOk result (λ given. is_some given ≡ true) }
-        ensures stale { result ≡ Ok None → self.new.node ≡ self.old.node }
-        ensures stale_stays { result ≡ Ok None
-            → VoterStays (⟦<S as NodeConfigs<D>>⟧.of self.old.node) self.old self.new }
-        ensures needed { OnErr result (NeedsRoom self.old) }
-        ensures refused { OnErr result (self.new.node ≡ self.old.node) }
-        ensures stays { OnErr result
-            (VoterStays (⟦<S as NodeConfigs<D>>⟧.of self.old.node) self.old self.new) }
-        ensures same { SameNode self.old.node self.new.node }
-        ensures contents { self.new.journal.contents ≡ self.old.journal.contents }
-        ensures open { self.new.journal.is_open ≡ self.old.journal.is_open }
-        ensures copied { KeepsCopy L.is_copied_as self.old.journal.log self.new.journal.log }
-    {
-        match self.next_construction() {
-            Some(view) => match self.make_ready(view.0, waiting) {
-                Ok(()) => Ok(self.conclude_with_at(view, subject, list, certificate)),
-                Err(fault) => {
-                    drop(certificate);
-                    Err(fault)
-                }
-            },
-            None => {
-                drop(certificate);
-                Ok(None)
-            }
-        }
-    }
-
-    // The same in the next view, for which there is room.
-    fn conclude_with_at(
-        &mut self,
-        view: View,
-        subject: Subject<D>,
-        list: &[Attestation<S::Signature>],
-        certificate: S::Certificate,
-    ) -> Option<Construction<S::Certificate, D>>
-        requires certifies { (S.meaning self.old.node.scheme).certifies subject certificate ≡ true }
-        requires room { HasRoom self.old.knowledge view.0 }
-        requires none { self.old.waits ≡ None }
-        requires next { IsNext self.old.node.rounds view.0 }
-        ensures meets { IfSome result (λ one.
-            VoterMeets (⟦<S as NodeConfigs<D>>⟧.of self.old.node) self.old self.new
-            (constructed one.view.0 one.batch)) }
-        ensures gives { IfSome result (λ one. IfSome one.batch (λ batch. batch.certificate
-            ≡ Some (certificate_for subject certificate))) }
-        ensures constructs { IfSome result (λ one. is_some one.batch ≡ true) }
-        ensures next { IfSome result (λ one. IsNext self.old.node.rounds one.view.0) }
-        ensures looks_at { IfSome result (λ one. LooksAtThere ⟦<S as RoundConfigs<D>>⟧.of
-            (slot_at self.old.node.rounds one.view.0) subject list.now) }
-        ensures not_stale { (view : ℕ) → IsNext self.old.node.rounds view
-            → LooksAtThere ⟦<S as RoundConfigs<D>>⟧.of (slot_at self.old.node.rounds view) subject
-            list.now
-            → MayBeQuorumThere ⟦<S as RoundConfigs<D>>⟧.of (slot_at self.old.node.rounds view)
-            → is_some result ≡ true }
-        ensures stale { result ≡ None → self.new ≡ self.old }
-        ensures same { SameNode self.old.node self.new.node }
-        ensures contents { self.new.journal.contents ≡ self.old.journal.contents }
-        ensures open { self.new.journal.is_open ≡ self.old.journal.is_open }
-        ensures copied { KeepsCopy L.is_copied_as self.old.journal.log self.new.journal.log }
-    {
-        self.begins();
-        self.has_history();
-        senders_of_votes_to_send_are_never_blocked::<S, D>();
-        match self.call_conclude_with(view, subject, list, certificate) {
-            Some(made) => match certificate_in(&made) {
-                Some(certificate) => {
-                    self.learn(certificate);
-                    Some(made)
-                }
-                None => Some(made),
-            },
-            None => None,
-        }
-    }
-
-    // The node makes the construction.
-    fn call_conclude_with(
-        &mut self,
-        view: View,
-        subject: Subject<D>,
-        list: &[Attestation<S::Signature>],
-        certificate: S::Certificate,
-    ) -> Option<Construction<S::Certificate, D>>
-        requires certifies { (S.meaning self.old.node.scheme).certifies subject certificate ≡ true }
-        requires next { IsNext self.old.node.rounds view.0 }
-        ensures meets { IfSome result (λ one. NodeMeets (⟦<S as NodeConfigs<D>>⟧.of self.old.node)
-            self.old.node (constructed one.view.0 one.batch) self.new.node) }
-        ensures view { IfSome result (λ one. one.view ≡ view) }
-        ensures of_view { IfSome result (IsOfItsView self.old.node.epoch) }
-        ensures gives { IfSome result (λ one. IfSome one.batch (λ batch. batch.certificate
-            ≡ Some (certificate_for subject certificate))) }
-        ensures constructs { IfSome result (λ one. is_some one.batch ≡ true) }
-        ensures next { IfSome result (λ one. IsNext self.old.node.rounds one.view.0) }
-        ensures looks_at { IfSome result (λ one. LooksAtThere ⟦<S as RoundConfigs<D>>⟧.of
-            (slot_at self.old.node.rounds one.view.0) subject list.now) }
-        ensures not_stale { (view : ℕ) → IsNext self.old.node.rounds view
-            → LooksAtThere ⟦<S as RoundConfigs<D>>⟧.of (slot_at self.old.node.rounds view) subject
-            list.now
-            → MayBeQuorumThere ⟦<S as RoundConfigs<D>>⟧.of (slot_at self.old.node.rounds view)
-            → is_some result ≡ true }
-        ensures stale { result ≡ None → self.new ≡ self.old }
-        ensures same { SameNode self.old.node self.new.node }
-        ensures journal { self.new.journal ≡ self.old.journal }
-        ensures knowledge { self.new.knowledge ≡ self.old.knowledge }
-        ensures waits { self.new.waits ≡ self.old.waits }
-    {
-        match self.ask_conclude_with(subject, list, certificate) {
-            Some(made) => Some(made),
-            None => None,
-        }
-    }
-
-    fn ask_conclude_with(
-        &mut self,
-        subject: Subject<D>,
-        list: &[Attestation<S::Signature>],
-        certificate: S::Certificate,
-    ) -> Option<Construction<S::Certificate, D>>
-        requires { (S.meaning self.old.node.scheme).certifies subject certificate ≡ true }
-        ensures meets { IfSome result (λ one. NodeMeets (⟦<S as NodeConfigs<D>>⟧.of self.old.node)
-            self.old.node (constructed one.view.0 one.batch) self.new.node) }
-        ensures of_view { IfSome result (IsOfItsView self.old.node.epoch) }
-        ensures gives { IfSome result (λ one. IfSome one.batch (λ batch. batch.certificate
-            ≡ Some (certificate_for subject certificate))) }
-        ensures constructs { IfSome result (λ one. is_some one.batch ≡ true) }
-        ensures next { IfSome result (λ one. IsNext self.old.node.rounds one.view.0) }
-        ensures looks_at { IfSome result (λ one. LooksAtThere ⟦<S as RoundConfigs<D>>⟧.of
-            (slot_at self.old.node.rounds one.view.0) subject list.now) }
-        ensures not_stale { (view : ℕ) → IsNext self.old.node.rounds view
-            → LooksAtThere ⟦<S as RoundConfigs<D>>⟧.of (slot_at self.old.node.rounds view) subject
-            list.now
-            → MayBeQuorumThere ⟦<S as RoundConfigs<D>>⟧.of (slot_at self.old.node.rounds view)
-            → is_some result ≡ true }
-        ensures stale { result ≡ None → self.new ≡ self.old }
-        ensures same { SameNode self.old.node self.new.node }
-        ensures journal { self.new.journal ≡ self.old.journal }
-        ensures knowledge { self.new.knowledge ≡ self.old.knowledge }
-        ensures waits { self.new.waits ≡ self.old.waits }
-    {
-        self.node.promises();
-        let made = self.node.conclude_with(subject, list, certificate);
         self.node.promises();
         made
     }
