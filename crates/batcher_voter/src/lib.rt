@@ -9,6 +9,7 @@ mod calls;
 mod casting;
 mod concluding;
 mod knowledge;
+mod learned;
 mod moving;
 mod reading;
 mod starting;

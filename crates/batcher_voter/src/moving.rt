@@ -27,7 +27,7 @@ ghost use Rattle.batcher_voter.specs.Voting.{ForEachLife, IsVoting, VoterStays, 
 ghost use Rattle.batcher_bytes.specs.Copies.{KeepsCopy};
 
 use crate::answers::FinalizeFault;
-use crate::calls::encoded;
+use crate::learned::encoded;
 use crate::voter::Voter;
 use batcher::messages::{Certificate, Digest, Identical, Kind, Subject};
 use batcher::positions::Round;

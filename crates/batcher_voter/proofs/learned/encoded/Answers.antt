@@ -1,7 +1,7 @@
 use Rattle.batcher_voter.proofs.Words.{◌++◌, ◌∙◌, ap, certificate_format, versioned}
 use Rattle.batcher_bytes.specs.Lawful.{certificate_is_exact}
 use Rattle.batcher_voter.proofs.Readable.{read_again}
-use Rattle.batcher_voter.proofs.calls.encoded.Goals as goal
+use Rattle.batcher_voter.proofs.learned.encoded.Goals as goal
 
 pub returns-in-Ok-clause-read : goal.returns-in-Ok-clause-read
 returns-in-Ok-clause-read g c =
