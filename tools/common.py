@@ -150,6 +150,11 @@ def with_libraries(crates):
     return ordered
 
 
+def crates_of_tests():
+    """The crates that have tests and nothing else."""
+    return [it for it in dependencies() if it.endswith("_tests")]
+
+
 def is_program(crate):
     return os.path.isfile(f"{folder_of(crate)}/src/main.rt")
 

@@ -4,12 +4,6 @@
 #[cfg(test)]
 mod lives;
 #[cfg(test)]
-mod loops;
-#[cfg(test)]
 mod nodes;
 #[cfg(test)]
 mod tests;
-#[cfg(test)]
-mod validators;
-#[cfg(test)]
-mod voters;

@@ -11,7 +11,7 @@ mod rows;
 mod schemes;
 mod scripts;
 mod texts;
-pub(crate) mod verdicts;
+mod verdicts;
 mod verifiers;
 
 use batcher::messages::{

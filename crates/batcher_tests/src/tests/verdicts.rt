@@ -1,11 +1,11 @@
 //! Rounds whose votes are verified elsewhere: they lend what they want verdicts on, and are handed
 //! them, or a certificate of all together.
 
-ghost use Rattle.std.specs.Prelude.{◌≡◌, map, IfOk};
+ghost use Rattle.std.specs.Prelude.{◌≡◌};
 
 use super::*;
 use batcher::messages::Identical;
-use std::slice;
+use batcher_example::verdicts_on;
 
 // What a round lent: what the next construction is about, and the attestations that it looks at.
 #[derive(Drop)]
@@ -26,25 +26,6 @@ fn next_wanted<S: Scheme<Digest>>(
         })),
         None => Ok(None),
     }
-}
-
-// A verdict on each attestation, by the scheme.
-pub(crate) fn verdicts_on<S: Scheme<Digest>>(
-    alloc: Global,
-    scheme: &S,
-    subject: Subject<Digest>,
-    list: &[Attestation<S::Signature>],
-) -> Result<Vec<bool>, AllocError>
-    ensures { IfOk result (λ verdicts. verdicts.items
-        ≡ map ((S.meaning scheme.now).attests subject) list.now) }
-{
-    let mut verdicts = Vec::new(alloc);
-    for attestation in list {
-        let one = slice::from_ref(attestation);
-        let found = scheme.verify_attestations(alloc, &mut Counter::new(0), subject, one)?;
-        verdicts.push(found.invalid.is_empty())?;
-    }
-    Ok(verdicts)
 }
 
 // Hands in verdicts on what was wanted, by the round's own scheme.

@@ -1,6 +1,6 @@
-use Rattle.batcher_tests.proofs.Words.{◌≡◌, ◌<◌, ◌+◌, map, ℕ, length, get_or, Bool, true, false, nat_eq, List, [], ◌∷◌, ◌++◌, refl, sym, filter, not, take}
-use Rattle.batcher_tests.proofs.Words.{arith, take_more, map-append}
-use Rattle.batcher_tests.proofs.tests.verdicts.verdicts_on.Goals as goal
+use Rattle.batcher_example.proofs.Words.{◌≡◌, ◌<◌, ◌+◌, map, ℕ, length, get_or, Bool, true, false, nat_eq, List, [], ◌∷◌, ◌++◌, refl, sym, filter, not, take}
+use Rattle.batcher_example.proofs.Words.{arith, take_more, map-append}
+use Rattle.batcher_example.proofs.verdicts.verdicts_on.Goals as goal
 
 -- that no item of a list of one fails is the item's verdict
 verdict : {A B : Type 0} (test : A → Bool) (x : A) (f : A → B) (b : Bool) → test x ≡ b

@@ -1,5 +1,5 @@
-use Rattle.batcher_tests.proofs.Words.{◌≡◌, map, take}
-use Rattle.batcher_tests.proofs.tests.verdicts.verdicts_on.Given as goal
+use Rattle.batcher_example.proofs.Words.{◌≡◌, map, take}
+use Rattle.batcher_example.proofs.verdicts.verdicts_on.Given as goal
 
 abbrev pub invariant-loop-attestation : goal.invariant-loop-attestation
 invariant-loop-attestation g l =

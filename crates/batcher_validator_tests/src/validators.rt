@@ -2,12 +2,12 @@
 
 ghost use Rattle.std.specs.Prelude.{◌≡◌, ◌<◌, ℕ, length};
 
-use crate::tests::verdicts::verdicts_on;
 use batcher::messages::{Attestation, Certificate, Kind, Proposal, Sha256Digest, Subject, Vote};
 use batcher::positions::{Epoch, Participant, Round, View};
 use batcher::round::BlockReason;
 use batcher::scheme::{AttestationList, Counter, Keyed, Name, Scheme, names};
 use batcher_bytes::MemoryLog;
+use batcher_example::verdicts_on;
 use batcher_journal::{Journal, Owner, Unopened};
 use batcher_node::{Ahead, Cast, Cause, Receipt, Verdict};
 use batcher_validator::{PollFault, Task, Validator};
