@@ -274,31 +274,31 @@ static int one_round(uint64_t seed) {
 }
 
 /* What is owed is written, into a room of any size first. */
-static int write_down(struct batcher_loop *loop, uint8_t *disk, size_t *written) {
+static int write_down(struct batcher_validator *validator, uint8_t *disk, size_t *written) {
     static uint8_t room[DISK];
     uint64_t count = 0, number = below(3);
     size_t tried = below(200);
     bool replaces = false;
-    uint8_t code = batcher_loop_give(loop, number, room, tried, &count, &replaces);
+    uint8_t code = batcher_validator_give(validator, number, room, tried, &count, &replaces);
     CHECK(code == BATCHER_IDLE || (code == BATCHER_SHORT) == (tried < count));
-    if (code == BATCHER_SHORT) code = batcher_loop_give(loop, number, room, sizeof room, &count, &replaces);
+    if (code == BATCHER_SHORT) code = batcher_validator_give(validator, number, room, sizeof room, &count, &replaces);
     CHECK(code == BATCHER_DONE || code == BATCHER_IDLE);
     if (code == BATCHER_IDLE) return 0;
-    CHECK(batcher_loop_give(loop, number, room, sizeof room, &count, &replaces) == BATCHER_IDLE);
+    CHECK(batcher_validator_give(validator, number, room, sizeof room, &count, &replaces) == BATCHER_IDLE);
     if (replaces) *written = 0;
     CHECK(*written + count <= DISK);
     memcpy(disk + *written, room, count);
     *written += count;
     do {
-        code = batcher_loop_wrote(loop, number);
+        code = batcher_validator_wrote(validator, number);
         CHECK(code == BATCHER_DONE || (code == BATCHER_OUT_OF_MEMORY && refused));
     } while (code != BATCHER_DONE);
-    CHECK(batcher_loop_give(loop, number, room, sizeof room, &count, &replaces) == BATCHER_IDLE);
+    CHECK(batcher_validator_give(validator, number, room, sizeof room, &count, &replaces) == BATCHER_IDLE);
     return 0;
 }
 
 /* Verdicts on what is lent, or late ones on what isn't. */
-static int conclude_in(struct batcher_loop *loop, uint32_t participants) {
+static int conclude_in(struct batcher_validator *validator, uint32_t participants) {
     struct batcher_attestation list[MOST];
     struct batcher_step step;
     bool verdicts[MOST];
@@ -306,7 +306,7 @@ static int conclude_in(struct batcher_loop *loop, uint32_t participants) {
     memset(&step, 0, sizeof step);
     uint64_t view = below(3) != 0 ? 0 : below(6);
     uint8_t kind = (uint8_t)mostly_below(3);
-    uint8_t code = batcher_loop_lend(loop, view, kind, &step, list, room);
+    uint8_t code = batcher_validator_lend(validator, view, kind, &step, list, room);
     if (view != 0 && kind > BATCHER_FINALIZATION) {
         CHECK(code == BATCHER_MALFORMED);
         return 0;
@@ -319,7 +319,7 @@ static int conclude_in(struct batcher_loop *loop, uint32_t participants) {
     for (uint64_t i = 0; i < step.listed; i++) verdicts[i] = attests(&list[i]);
     if (below(5) == 0) step.kind = (uint8_t)mostly_below(3);
     size_t given = below(10) != 0 ? step.listed : below(MOST);
-    code = batcher_loop_conclude(loop, step.kind, &step.proposal, list, step.listed, verdicts, given);
+    code = batcher_validator_conclude(validator, step.kind, &step.proposal, list, step.listed, verdicts, given);
     MADE(code);
     CHECK(code == BATCHER_DONE || code == BATCHER_STALE || code == BATCHER_MALFORMED);
     CHECK(given == step.listed || code == BATCHER_MALFORMED);
@@ -328,19 +328,20 @@ static int conclude_in(struct batcher_loop *loop, uint32_t participants) {
 }
 
 /* A task is done, or isn't. */
-static int poll_once(struct batcher_loop *loop, uint32_t me, uint8_t *disk, size_t *written) {
+static int poll_once(struct batcher_validator *validator, uint32_t me, uint8_t *disk, size_t *written) {
     struct batcher_task task;
     struct batcher_vote vote;
     memset(&task, 0x5a, sizeof task);
-    uint8_t code = batcher_loop_poll(loop, &task);
+    uint8_t code = batcher_validator_poll(validator, &task);
     MADE(code);
     CHECK(code == BATCHER_DONE || code == BATCHER_WRITE || code == BATCHER_IDLE);
-    if (code == BATCHER_WRITE) return write_down(loop, disk, written);
+    if (code == BATCHER_WRITE) return write_down(validator, disk, written);
     if (code == BATCHER_IDLE || below(20) == 0) return 0;
     CHECK(task.task <= BATCHER_TASK_FORWARD);
     switch (task.task) {
     case BATCHER_TASK_ENTER:
-        code = batcher_loop_enter(loop, task.proposal.view, 0);
+        CHECK(batcher_validator_enter(validator, task.proposal.view, UINT32_MAX) == BATCHER_UNKNOWN);
+        code = batcher_validator_enter(validator, task.proposal.view, 0);
         MADE(code);
         CHECK(code == BATCHER_DONE || code == BATCHER_LEADER_CHANGED);
         return 0;
@@ -351,12 +352,12 @@ static int poll_once(struct batcher_loop *loop, uint32_t me, uint8_t *disk, size
         vote.attestation.signer = me;
         vote.attestation.length = 64;
         memset(vote.attestation.bytes, 1, 64);
-        code = batcher_loop_cast(loop, &vote, true);
+        code = batcher_validator_cast(validator, &vote, true);
         MADE(code);
         signed_votes += code == BATCHER_DONE;
         return 0;
     case BATCHER_TASK_PROPOSE:
-    case BATCHER_TASK_JUDGE: CHECK(batcher_loop_judge(loop, &task.proposal, below(5) != 0) == BATCHER_DONE); return 0;
+    case BATCHER_TASK_JUDGE: CHECK(batcher_validator_judge(validator, &task.proposal, below(5) != 0) == BATCHER_DONE); return 0;
     default: return 0;
     }
 }
@@ -379,13 +380,13 @@ static size_t any_list(uint8_t *bytes, uint32_t participants) {
 }
 
 /* A certificate is taken in by verdicts on what its bytes list. */
-static int certificate_of(struct batcher_loop *loop, uint32_t participants, uint64_t peer, const struct batcher_vote *vote) {
-    uint8_t bytes[8 + 101 * MOST], wanted = batcher_loop_wants(loop, peer, vote->kind, &vote->proposal);
+static int certificate_of(struct batcher_validator *validator, uint32_t participants, uint64_t peer, const struct batcher_vote *vote) {
+    uint8_t bytes[8 + 101 * MOST], wanted = batcher_validator_wants(validator, peer, vote->kind, &vote->proposal);
     struct batcher_attestation list[MOST];
-    bool verdicts[MOST], all = true, is_heard = batcher_loop_hears(loop, peer) == BATCHER_DONE;
+    bool verdicts[MOST], all = true, is_heard = batcher_validator_hears(validator, peer) == BATCHER_DONE;
     uint64_t listed = 0, given;
     size_t length = any_list(bytes, participants);
-    uint8_t code = batcher_loop_listed(loop, bytes, length, list, MOST, &listed);
+    uint8_t code = batcher_validator_listed(validator, bytes, length, list, MOST, &listed);
     MADE(code);
     CHECK(code == BATCHER_VERIFY || (code == BATCHER_FORGED && listed == 0));
     CHECK(listed <= participants && (listed == 0 || length == 8 + 101 * listed));
@@ -395,18 +396,18 @@ static int certificate_of(struct batcher_loop *loop, uint32_t participants, uint
         all = all && verdicts[i];
     }
     given = listed == 0 || below(20) != 0 ? listed : below(listed);
-    code = batcher_loop_certificate(loop, peer, vote->kind, &vote->proposal, bytes, length, verdicts, given);
+    code = batcher_validator_certificate(validator, peer, vote->kind, &vote->proposal, bytes, length, verdicts, given);
     MADE(code);
     CHECK((code == BATCHER_MALFORMED) == (vote->kind > 2 || given != listed));
     if (code == BATCHER_MALFORMED) return 0;
     CHECK(is_heard == (code != BATCHER_DROPPED && code != BATCHER_UNKNOWN));
     CHECK(wanted == BATCHER_DONE || wanted == BATCHER_KNOWN || code == wanted);
     CHECK(code != BATCHER_DONE || (listed != 0 && all));
-    if (code == BATCHER_FORGED) CHECK((listed == 0 || !all) && batcher_loop_hears(loop, peer) == BATCHER_DROPPED);
+    if (code == BATCHER_FORGED) CHECK((listed == 0 || !all) && batcher_validator_hears(validator, peer) == BATCHER_DROPPED);
     return 0;
 }
 
-static int one_loop_call(struct batcher_loop *loop, uint32_t participants, uint32_t me, uint8_t *disk, size_t *written) {
+static int one_validator_call(struct batcher_validator *validator, uint32_t participants, uint32_t me, uint8_t *disk, size_t *written) {
     struct batcher_progress progress;
     struct batcher_admission admission;
     struct batcher_vote vote = any_vote(participants);
@@ -421,54 +422,54 @@ static int one_loop_call(struct batcher_loop *loop, uint32_t participants, uint3
     case 0:
     case 1:
     case 2:
-        code = batcher_loop_vote(loop, peer, &vote, &admission);
+        code = batcher_validator_vote(validator, peer, &vote, &admission);
         MADE(code);
         CHECK((code == BATCHER_MALFORMED) == (vote.kind > 2 || vote.attestation.length > BATCHER_SIGNATURE_BYTES));
         CHECK((code == BATCHER_UNKNOWN) == (code != BATCHER_MALFORMED && peer >= participants));
         return 0;
     case 3:
-        code = batcher_loop_cast(loop, &vote, attests(&vote.attestation));
+        code = batcher_validator_cast(validator, &vote, attests(&vote.attestation));
         MADE(code);
         if (code == BATCHER_DONE) CHECK(attests(&vote.attestation) && vote.attestation.signer == me);
         return 0;
     case 4:
         vote.proposal.view = below(20);
-        return certificate_of(loop, participants, peer, &vote);
+        return certificate_of(validator, participants, peer, &vote);
     case 5:
-        code = batcher_loop_kept(loop, vote.kind, &vote.proposal, room, sizeof room, &count);
+        code = batcher_validator_kept(validator, vote.kind, &vote.proposal, room, sizeof room, &count);
         CHECK((code == BATCHER_MALFORMED) == (vote.kind > 2));
         CHECK(code != BATCHER_SHORT || count > sizeof room);
-        CHECK(batcher_loop_certified(loop, vote.kind, &vote.proposal) != BATCHER_IDLE || code == BATCHER_IDLE
+        CHECK(batcher_validator_certified(validator, vote.kind, &vote.proposal) != BATCHER_IDLE || code == BATCHER_IDLE
               || code == BATCHER_NOT_WRITTEN);
         return 0;
     case 6: {
         struct batcher_progress asked;
         uint64_t view = below(8), last;
-        CHECK(batcher_loop_progress(loop, view, &asked) == BATCHER_DONE);
-        CHECK(batcher_loop_expire(loop, view, &progress) == BATCHER_DONE);
+        CHECK(batcher_validator_progress(validator, view, &asked) == BATCHER_DONE);
+        CHECK(batcher_validator_expire(validator, view, &progress) == BATCHER_DONE);
         CHECK(asked.has_leader == progress.has_leader && asked.has_proposal == progress.has_proposal);
         CHECK(asked.notarizes.pending == progress.notarizes.pending);
         CHECK(asked.nullifies.verified == progress.nullifies.verified);
         CHECK(asked.finalizes.certified == progress.finalizes.certified);
-        CHECK(batcher_loop_views(loop, &view, &last) == BATCHER_DONE && last <= view);
+        CHECK(batcher_validator_views(validator, &view, &last) == BATCHER_DONE && last <= view);
         return 0;
     }
     case 7:
-        code = batcher_loop_message(loop, vote.kind, &vote.proposal, message, below(sizeof message), &count);
+        code = batcher_validator_message(validator, vote.kind, &vote.proposal, message, below(sizeof message), &count);
         CHECK((code == BATCHER_MALFORMED) == (vote.kind > 2));
         if (code == BATCHER_DONE) CHECK(count == (vote.kind == BATCHER_NULLIFICATION ? 26 : 66));
         return 0;
-    case 8: return conclude_in(loop, participants);
-    default: return poll_once(loop, me, disk, written);
+    case 8: return conclude_in(validator, participants);
+    default: return poll_once(validator, me, disk, written);
     }
 }
 
-static int one_loop(uint64_t seed) {
+static int one_validator(uint64_t seed) {
     static struct batcher_vote votes[SHOWN];
     static bool verdicts[SHOWN];
     static uint8_t disk[DISK];
-    struct batcher_loop loop = {0};
-    struct batcher_loop_options options;
+    struct batcher_validator validator = {0};
+    struct batcher_validator_options options;
     size_t written = 0;
     state = seed;
     may_refuse = false;
@@ -478,10 +479,16 @@ static int one_loop(uint64_t seed) {
     options.ahead = below(4);
     options.track_historical_votes = below(2) != 0;
     options.begins = true;
-    CHECK(batcher_loop_wrote(&loop, 0) == BATCHER_NONE);
-    CHECK(batcher_loop_start(&loop, &options, (const uint8_t *)"c", 1, NULL, 0, NULL, 0) == BATCHER_DONE);
+    CHECK(batcher_validator_wrote(&validator, 0) == BATCHER_NONE);
+    struct batcher_validator_options beyond = options;
+    beyond.ahead = BATCHER_MOST_AHEAD + 1;
+    CHECK(batcher_validator_start(&validator, &beyond, (const uint8_t *)"c", 1, NULL, 0, NULL, 0) == BATCHER_MALFORMED);
+    beyond = options;
+    beyond.participants = BATCHER_MOST_PARTICIPANTS + 1;
+    CHECK(batcher_validator_start(&validator, &beyond, (const uint8_t *)"c", 1, NULL, 0, NULL, 0) == BATCHER_MALFORMED);
+    CHECK(batcher_validator_start(&validator, &options, (const uint8_t *)"c", 1, NULL, 0, NULL, 0) == BATCHER_DONE);
     for (int calls = 0; calls < 200; calls++) {
-        int line = one_loop_call(&loop, options.participants, options.participant, disk, &written);
+        int line = one_validator_call(&validator, options.participants, options.participant, disk, &written);
         if (line != 0) return line;
     }
     /* It goes on by its disk alone, once memory isn't refused. */
@@ -489,7 +496,7 @@ static int one_loop(uint64_t seed) {
     may_refuse = below(2) != 0;
     refused = false;
     uint64_t shown = 0;
-    uint8_t code = batcher_loop_disk(&options, (const uint8_t *)"c", 1, disk, written, votes, SHOWN, &shown);
+    uint8_t code = batcher_validator_disk(&options, (const uint8_t *)"c", 1, disk, written, votes, SHOWN, &shown);
     CHECK(code == BATCHER_DONE || (code == BATCHER_OUT_OF_MEMORY && refused && shown == 0));
     for (uint64_t i = 0; i < shown; i++) {
         CHECK(votes[i].kind <= BATCHER_FINALIZATION && votes[i].attestation.signer < options.participants);
@@ -505,11 +512,11 @@ static int one_loop(uint64_t seed) {
             shown--;
     }
     refused = false;
-    code = batcher_loop_start(&loop, &options, (const uint8_t *)"c", 1, disk, written, verdicts, shown);
+    code = batcher_validator_start(&validator, &options, (const uint8_t *)"c", 1, disk, written, verdicts, shown);
     CHECK(code == BATCHER_OUT_OF_MEMORY ? refused : !is_given || (code == BATCHER_DONE) == is_good);
     CHECK(code == BATCHER_DONE || code == BATCHER_NOT_VERIFIED || code == BATCHER_OUT_OF_MEMORY);
-    batcher_loop_free(&loop);
-    CHECK(loop.at == NULL);
+    batcher_validator_free(&validator);
+    CHECK(validator.at == NULL);
     return 0;
 }
 
@@ -602,7 +609,7 @@ int main(int count, char **words) {
     if (count != 2 || sscanf(words[1], "%llu", &seeds) != 1) return 2;
     for (uint64_t seed = 0; seed < seeds; seed++) {
         int line = one_round(seed);
-        if (line == 0) line = one_loop(seed);
+        if (line == 0) line = one_validator(seed);
         if (line == 0) line = one_pair(seed);
         if (line != 0) {
             fprintf(stderr, "fuzz.c:%d: not so with seed %llu\n", line, (unsigned long long)seed);

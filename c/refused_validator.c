@@ -9,8 +9,8 @@
 #define SHOWN 64
 
 struct alone {
-    struct batcher_loop loop;
-    struct batcher_loop_options options;
+    struct batcher_validator validator;
+    struct batcher_validator_options options;
     uint8_t disk[ROOM], room[ROOM];
     size_t written;
     uint64_t last;
@@ -23,10 +23,10 @@ static bool start(struct alone *it) {
     uint64_t shown = 0;
     uint8_t code;
     it->options.begins = it->written == 0;
-    code = AGAIN(batcher_loop_disk(&it->options, name, 1, it->disk, it->written, votes, SHOWN, &shown));
+    code = AGAIN(batcher_validator_disk(&it->options, name, 1, it->disk, it->written, votes, SHOWN, &shown));
     if (code != BATCHER_DONE) return false;
     for (uint64_t i = 0; i < shown; i++) verdicts[i] = true;
-    return AGAIN(batcher_loop_start(&it->loop, &it->options, name, 1, it->disk, it->written, verdicts, shown))
+    return AGAIN(batcher_validator_start(&it->validator, &it->options, name, 1, it->disk, it->written, verdicts, shown))
         == BATCHER_DONE;
 }
 
@@ -34,12 +34,12 @@ static bool write_down(struct alone *it) {
     uint64_t count = 0;
     bool replaces = false;
     uint8_t code;
-    if (batcher_loop_give(&it->loop, 0, it->room, ROOM, &count, &replaces) != BATCHER_DONE) return false;
+    if (batcher_validator_give(&it->validator, 0, it->room, ROOM, &count, &replaces) != BATCHER_DONE) return false;
     if (replaces) it->written = 0;
     if (it->written + count > ROOM) return false;
     memcpy(it->disk + it->written, it->room, count);
     it->written += count;
-    return AGAIN(batcher_loop_wrote(&it->loop, 0)) == BATCHER_DONE;
+    return AGAIN(batcher_validator_wrote(&it->validator, 0)) == BATCHER_DONE;
 }
 
 static bool cast(struct alone *it, const struct batcher_task *task) {
@@ -49,7 +49,7 @@ static bool cast(struct alone *it, const struct batcher_task *task) {
         vote = vote_of(task->kind, task->proposal.view, 0, 0);
         vote.proposal = task->proposal;
     }
-    code = AGAIN(batcher_loop_cast(&it->loop, &vote, true));
+    code = AGAIN(batcher_validator_cast(&it->validator, &vote, true));
     return code == BATCHER_DONE || code == BATCHER_KNOWN;
 }
 
@@ -57,10 +57,10 @@ static bool verify(struct alone *it) {
     struct batcher_attestation list[1];
     struct batcher_step step;
     const bool good[] = {true};
-    uint8_t code = AGAIN(batcher_loop_lend(&it->loop, 0, 0, &step, list, 1));
+    uint8_t code = AGAIN(batcher_validator_lend(&it->validator, 0, 0, &step, list, 1));
     if (code == BATCHER_IDLE) return true;
     return code == BATCHER_VERIFY
-        && AGAIN(batcher_loop_conclude(&it->loop, step.kind, &step.proposal, list, step.listed, good, step.listed))
+        && AGAIN(batcher_validator_conclude(&it->validator, step.kind, &step.proposal, list, step.listed, good, step.listed))
         == BATCHER_DONE;
 }
 
@@ -68,11 +68,11 @@ static bool perform(struct alone *it, const struct batcher_task *task) {
     uint8_t code;
     switch (task->task) {
     case BATCHER_TASK_FINAL: it->last = task->proposal.view; return true;
-    case BATCHER_TASK_ENTER: return AGAIN(batcher_loop_enter(&it->loop, task->proposal.view, 0)) == BATCHER_DONE;
+    case BATCHER_TASK_ENTER: return AGAIN(batcher_validator_enter(&it->validator, task->proposal.view, 0)) == BATCHER_DONE;
     case BATCHER_TASK_VERIFY: return verify(it);
     case BATCHER_TASK_CAST:
     case BATCHER_TASK_SIGN: return cast(it, task);
-    case BATCHER_TASK_PROPOSE: return batcher_loop_judge(&it->loop, &task->proposal, true) == BATCHER_DONE;
+    case BATCHER_TASK_PROPOSE: return batcher_validator_judge(&it->validator, &task->proposal, true) == BATCHER_DONE;
     case BATCHER_TASK_SEND_VOTE:
     case BATCHER_TASK_SEND_CERTIFICATE:
     case BATCHER_TASK_FORWARD: return true;
@@ -85,7 +85,7 @@ static bool go_on(struct alone *it, uint64_t last) {
     uint8_t code;
     memset(&task, 0, sizeof task);
     while (it->last < last) {
-        code = AGAIN(batcher_loop_poll(&it->loop, &task));
+        code = AGAIN(batcher_validator_poll(&it->validator, &task));
         if (code == BATCHER_WRITE ? !write_down(it) : code != BATCHER_DONE || !perform(it, &task)) return false;
     }
     return true;
@@ -98,11 +98,11 @@ static int play(const void *sort) {
     it.options.ahead = 4;
     it.options.participants = 1;
     bool fine = start(&it) && go_on(&it, LAST / 2);
-    batcher_loop_free(&it.loop);
+    batcher_validator_free(&it.validator);
     it.last = 0;
     fine = fine && start(&it) && go_on(&it, LAST);
-    batcher_loop_free(&it.loop);
-    return fine && it.loop.at == NULL;
+    batcher_validator_free(&it.validator);
+    return fine && it.validator.at == NULL;
 }
 
 int main(void) { return each_refused_in_turn("a validator", play, NULL); }

@@ -52,7 +52,7 @@ static uint16_t ports[MOST];
 static int listener, record, files[2], in_use;
 static struct way from[4 * MOST], to[MOST];
 static bool is_blocked[MOST];
-static struct batcher_loop loop;
+static struct batcher_validator validator;
 static struct batcher_files disk;
 static uint64_t view, last, deadline;
 /* What is final, until the next write is done: it has the finalization. */
@@ -124,7 +124,7 @@ static size_t verdicts_on(bool *verdicts, uint8_t kind, const struct batcher_pro
                           size_t length) {
     struct batcher_attestation list[MOST];
     uint64_t listed = 0;
-    uint8_t code = batcher_loop_listed(&loop, bytes, length, list, MOST, &listed);
+    uint8_t code = batcher_validator_listed(&validator, bytes, length, list, MOST, &listed);
     need(code == BATCHER_VERIFY || code == BATCHER_FORGED, batcher_code_text(code));
     for (uint64_t i = 0; i < listed; i++) verdicts[i] = attests(kind, proposal, &list[i]);
     return listed;
@@ -161,21 +161,21 @@ static size_t read_file(const char *folder, int which, uint8_t *bytes) {
 }
 
 /* Makes the validator. What its disk shows is sent again, so there is a verdict on each vote of it. */
-static void start_by(const struct batcher_loop_options *options, const uint8_t *bytes, uint64_t length) {
+static void start_by(const struct batcher_validator_options *options, const uint8_t *bytes, uint64_t length) {
     static struct batcher_vote votes[SHOWN];
     static bool verdicts[SHOWN];
     uint64_t shown = 0;
-    done(batcher_loop_disk(options, (const uint8_t *)NAMESPACE, sizeof NAMESPACE - 1, bytes, length, votes, SHOWN, &shown));
+    done(batcher_validator_disk(options, (const uint8_t *)NAMESPACE, sizeof NAMESPACE - 1, bytes, length, votes, SHOWN, &shown));
     for (uint64_t i = 0; i < shown; i++)
         verdicts[i] = attests(votes[i].kind, &votes[i].proposal, &votes[i].attestation);
-    done(batcher_loop_start(&loop, options, (const uint8_t *)NAMESPACE, sizeof NAMESPACE - 1, bytes, length, verdicts,
-                            shown));
+    done(batcher_validator_start(&validator, options, (const uint8_t *)NAMESPACE, sizeof NAMESPACE - 1, bytes, length, verdicts,
+                                 shown));
 }
 
 /* The validator that goes on by its files. Files that have nothing show that nothing was signed, so it begins. */
 static void start(const char *folder) {
     static uint8_t first[ROOM], second[ROOM];
-    struct batcher_loop_options options = {.ahead = 16, .participants = count, .participant = me};
+    struct batcher_validator_options options = {.ahead = 16, .participants = count, .participant = me};
     size_t lengths[2];
     uint64_t written = 0;
     bool turned = false;
@@ -199,14 +199,14 @@ static void write_down(void) {
     uint64_t length;
     bool replaces;
     writes++;
-    done(batcher_loop_give(&loop, writes, bytes, ROOM, &length, &replaces));
+    done(batcher_validator_give(&validator, writes, bytes, ROOM, &length, &replaces));
     if (disk.at == NULL)
         done(batcher_files_create(&disk, room, 0, room, 0, bytes, length));
     else
         done(replaces ? batcher_files_replace(&disk, bytes, length) : batcher_files_append(&disk, bytes, length));
     carry_out();
     if (replaces) in_use = 1 - in_use;
-    done(batcher_loop_wrote(&loop, writes));
+    done(batcher_validator_wrote(&validator, writes));
 }
 
 static void hang_up(struct way *it) {
@@ -254,7 +254,7 @@ static void cast(const struct batcher_task *task) {
         vote.attestation.length = 64;
         crypto_sign_ed25519_detached(vote.attestation.bytes, NULL, message, length, secret[me]);
     }
-    uint8_t code = batcher_loop_cast(&loop, &vote, attests(vote.kind, &vote.proposal, &vote.attestation));
+    uint8_t code = batcher_validator_cast(&validator, &vote, attests(vote.kind, &vote.proposal, &vote.attestation));
     need(code == BATCHER_DONE || code == BATCHER_KNOWN || code == BATCHER_REFUSED || code == BATCHER_ELSEWHERE,
          batcher_code_text(code));
 }
@@ -263,11 +263,11 @@ static void verify(void) {
     struct batcher_attestation list[MOST];
     struct batcher_step step;
     bool verdicts[MOST];
-    uint8_t code = batcher_loop_lend(&loop, 0, 0, &step, list, MOST);
+    uint8_t code = batcher_validator_lend(&validator, 0, 0, &step, list, MOST);
     if (code == BATCHER_IDLE) return;
     need(code == BATCHER_VERIFY, batcher_code_text(code));
     for (uint64_t i = 0; i < step.listed; i++) verdicts[i] = attests(step.kind, &step.proposal, &list[i]);
-    done(batcher_loop_conclude(&loop, step.kind, &step.proposal, list, step.listed, verdicts, step.listed));
+    done(batcher_validator_conclude(&validator, step.kind, &step.proposal, list, step.listed, verdicts, step.listed));
 }
 
 static void say_final(void) {
@@ -297,13 +297,13 @@ static void perform(struct batcher_task *task) {
         send_all(0, task->vote.kind, &task->vote.proposal, task->vote.attestation.bytes, 64);
         break;
     case BATCHER_TASK_SEND_CERTIFICATE:
-        done(batcher_loop_kept(&loop, task->kind, proposal, room, ROOM, &length));
+        done(batcher_validator_kept(&validator, task->kind, proposal, room, ROOM, &length));
         send_all(1, task->kind, proposal, room, length);
         break;
     case BATCHER_TASK_ENTER:
         view = proposal->view;
         wait_for_view();
-        done(batcher_loop_enter(&loop, view, (uint32_t)(view % count)));
+        done(batcher_validator_enter(&validator, view, (uint32_t)(view % count)));
         break;
     case BATCHER_TASK_VERIFY: verify(); break;
     case BATCHER_TASK_CAST:
@@ -312,10 +312,10 @@ static void perform(struct batcher_task *task) {
         put(numbers, proposal->view, 8);
         put(numbers + 8, proposal->parent, 8);
         crypto_hash_sha256(proposal->payload, numbers, sizeof numbers);
-        done(batcher_loop_judge(&loop, proposal, true));
+        done(batcher_validator_judge(&validator, proposal, true));
         break;
     /* There is nothing in a payload here. */
-    case BATCHER_TASK_JUDGE: done(batcher_loop_judge(&loop, proposal, true)); break;
+    case BATCHER_TASK_JUDGE: done(batcher_validator_judge(&validator, proposal, true)); break;
     case BATCHER_TASK_FORWARD: break;
     default: stop("a task isn't known");
     }
@@ -326,7 +326,7 @@ static void go_on(void) {
     struct batcher_task task;
     memset(&task, 0, sizeof task);
     for (;;) {
-        uint8_t code = batcher_loop_poll(&loop, &task);
+        uint8_t code = batcher_validator_poll(&validator, &task);
         if (code == BATCHER_WRITE) write_down();
         /* Where nothing was to be written, it was there. */
         say_final();
@@ -353,11 +353,11 @@ static void hear(uint32_t peer, const uint8_t *bytes, size_t length) {
         vote.attestation.signer = peer;
         vote.attestation.length = 64;
         memcpy(vote.attestation.bytes, bytes, 64);
-        batcher_loop_vote(&loop, peer, &vote, &admission);
-    } else if (bytes[-SUBJECT] == 1 && batcher_loop_wants(&loop, peer, vote.kind, &vote.proposal) == BATCHER_DONE) {
+        batcher_validator_vote(&validator, peer, &vote, &admission);
+    } else if (bytes[-SUBJECT] == 1 && batcher_validator_wants(&validator, peer, vote.kind, &vote.proposal) == BATCHER_DONE) {
         bool verdicts[MOST];
         size_t given = verdicts_on(verdicts, vote.kind, &vote.proposal, bytes, length);
-        batcher_loop_certificate(&loop, peer, vote.kind, &vote.proposal, bytes, length, verdicts, given);
+        batcher_validator_certificate(&validator, peer, vote.kind, &vote.proposal, bytes, length, verdicts, given);
     }
 }
 
@@ -511,7 +511,7 @@ static void run(void) {
         }
         if (now() >= deadline) {
             struct batcher_progress progress;
-            done(batcher_loop_expire(&loop, view, &progress));
+            done(batcher_validator_expire(&validator, view, &progress));
             wait_for_view();
         }
     }

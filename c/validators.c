@@ -39,7 +39,7 @@ struct message {
 };
 
 struct validator {
-    struct batcher_loop loop;
+    struct batcher_validator inner;
     /* What was written is in two files, of which one is in use. */
     struct batcher_files files;
     uint8_t file[2][ROOM];
@@ -98,17 +98,17 @@ static bool attests(uint8_t kind, const struct batcher_proposal *proposal, const
 
 /* Whether each attestation attests that the bytes of a certificate list, and how many they are: none where it is no list of a
  * quorum. */
-static size_t verdicts_on(const struct batcher_loop *loop, const struct message *it, bool *verdicts) {
+static size_t verdicts_on(const struct batcher_validator *validator, const struct message *it, bool *verdicts) {
     struct batcher_attestation list[VALIDATORS];
     uint64_t listed = 0;
-    if (batcher_loop_listed(loop, it->bytes, it->length, list, VALIDATORS, &listed) != BATCHER_VERIFY) return 0;
+    if (batcher_validator_listed(validator, it->bytes, it->length, list, VALIDATORS, &listed) != BATCHER_VERIFY) return 0;
     for (uint64_t i = 0; i < listed; i++) verdicts[i] = attests(it->vote.kind, &it->vote.proposal, &list[i]);
     return listed;
 }
 
-static bool certifies(const struct batcher_loop *loop, const struct message *it) {
+static bool certifies(const struct batcher_validator *validator, const struct message *it) {
     bool verdicts[VALIDATORS], all = true;
-    size_t given = verdicts_on(loop, it, verdicts);
+    size_t given = verdicts_on(validator, it, verdicts);
     for (size_t i = 0; i < given; i++) all = all && verdicts[i];
     return given != 0 && all;
 }
@@ -152,27 +152,27 @@ static int carry_out(struct validator *it, bool *is_stopped) {
 }
 
 /* Makes a validator. What its disk shows attests, since nothing else was written, and one that doesn't is refused. */
-static int start_by(struct batcher_loop *loop, const struct batcher_loop_options *options, const uint8_t *disk,
+static int start_by(struct batcher_validator *validator, const struct batcher_validator_options *options, const uint8_t *disk,
                     uint64_t length) {
     static struct batcher_vote votes[SHOWN];
     static bool verdicts[SHOWN];
     const uint8_t *name = (const uint8_t *)"c";
     uint64_t shown = SHOWN;
-    CHECK(batcher_loop_disk(options, name, 1, disk, length, votes, SHOWN, &shown) == BATCHER_DONE && shown < SHOWN);
+    CHECK(batcher_validator_disk(options, name, 1, disk, length, votes, SHOWN, &shown) == BATCHER_DONE && shown < SHOWN);
     for (uint64_t i = 0; i < shown; i++) {
         CHECK(attests(votes[i].kind, &votes[i].proposal, &votes[i].attestation));
         verdicts[i] = true;
     }
     if (shown != 0) {
         uint64_t asked = 0;
-        CHECK(batcher_loop_disk(options, name, 1, disk, length, votes, shown - 1, &asked) == BATCHER_SHORT);
+        CHECK(batcher_validator_disk(options, name, 1, disk, length, votes, shown - 1, &asked) == BATCHER_SHORT);
         CHECK(asked == shown);
-        CHECK(batcher_loop_start(loop, options, name, 1, disk, length, verdicts, shown - 1) == BATCHER_NOT_VERIFIED);
+        CHECK(batcher_validator_start(validator, options, name, 1, disk, length, verdicts, shown - 1) == BATCHER_NOT_VERIFIED);
         verdicts[shown / 2] = false;
-        CHECK(batcher_loop_start(loop, options, name, 1, disk, length, verdicts, shown) == BATCHER_NOT_VERIFIED);
+        CHECK(batcher_validator_start(validator, options, name, 1, disk, length, verdicts, shown) == BATCHER_NOT_VERIFIED);
         verdicts[shown / 2] = true;
     }
-    CHECK(batcher_loop_start(loop, options, name, 1, disk, length, verdicts, shown) == BATCHER_DONE);
+    CHECK(batcher_validator_start(validator, options, name, 1, disk, length, verdicts, shown) == BATCHER_DONE);
     return 0;
 }
 
@@ -180,7 +180,7 @@ static int start_by(struct batcher_loop *loop, const struct batcher_loop_options
 static int start(uint32_t me) {
     static uint8_t disk[ROOM];
     struct validator *it = &all[me];
-    struct batcher_loop_options options;
+    struct batcher_validator_options options;
     uint64_t count = 0;
     bool turned = false, is_stopped = false;
     memset(&options, 0, sizeof options);
@@ -200,7 +200,7 @@ static int start(uint32_t me) {
         if (is_stopped) return start(me);
         CHECK(batcher_files_bytes(&it->files, disk, sizeof disk, &count) == BATCHER_DONE);
     }
-    return start_by(&it->loop, &options, disk, count);
+    return start_by(&it->inner, &options, disk, count);
 }
 
 /* What is owed is written, unless it is stopped before that is done. */
@@ -212,9 +212,9 @@ static int write_down(uint32_t me, bool *is_stopped) {
     bool replaces = false;
     uint8_t code;
     number++;
-    CHECK(batcher_loop_give(&it->loop, number, room, 1, &count, &replaces) == BATCHER_SHORT);
-    CHECK(batcher_loop_wrote(&it->loop, number) == BATCHER_NOT_GIVEN);
-    CHECK(batcher_loop_give(&it->loop, number, room, sizeof room, &count, &replaces) == BATCHER_DONE);
+    CHECK(batcher_validator_give(&it->inner, number, room, 1, &count, &replaces) == BATCHER_SHORT);
+    CHECK(batcher_validator_wrote(&it->inner, number) == BATCHER_NOT_GIVEN);
+    CHECK(batcher_validator_give(&it->inner, number, room, sizeof room, &count, &replaces) == BATCHER_DONE);
     if (it->files.at == NULL) {
         CHECK(!replaces);
         code = batcher_files_create(&it->files, it->file[0], it->length[0], it->file[1], it->length[1], room, count);
@@ -227,11 +227,11 @@ static int write_down(uint32_t me, bool *is_stopped) {
     int line = carry_out(it, is_stopped);
     if (line != 0 || *is_stopped) return line;
     if (replaces) it->in_use = 1 - it->in_use;
-    CHECK(batcher_loop_give(&it->loop, number + 1, room, sizeof room, &count, &replaces) == BATCHER_IDLE);
-    CHECK(batcher_loop_wrote(&it->loop, number + 1) == BATCHER_NOT_GIVEN);
-    CHECK(batcher_loop_wrote(&it->loop, number) == BATCHER_DONE);
-    CHECK(batcher_loop_wrote(&it->loop, number) == BATCHER_NOT_GIVEN);
-    CHECK(batcher_loop_give(&it->loop, number + 1, room, sizeof room, &count, &replaces) == BATCHER_IDLE);
+    CHECK(batcher_validator_give(&it->inner, number + 1, room, sizeof room, &count, &replaces) == BATCHER_IDLE);
+    CHECK(batcher_validator_wrote(&it->inner, number + 1) == BATCHER_NOT_GIVEN);
+    CHECK(batcher_validator_wrote(&it->inner, number) == BATCHER_DONE);
+    CHECK(batcher_validator_wrote(&it->inner, number) == BATCHER_NOT_GIVEN);
+    CHECK(batcher_validator_give(&it->inner, number + 1, room, sizeof room, &count, &replaces) == BATCHER_IDLE);
     return 0;
 }
 
@@ -257,12 +257,12 @@ static int verify(uint32_t me) {
     struct batcher_attestation list[VALIDATORS];
     struct batcher_step step;
     bool verdicts[VALIDATORS];
-    CHECK(batcher_loop_lend(&it->loop, 0, 0, &step, list, VALIDATORS - 1) == BATCHER_SHORT);
-    uint8_t code = batcher_loop_lend(&it->loop, 0, 0, &step, list, VALIDATORS);
+    CHECK(batcher_validator_lend(&it->inner, 0, 0, &step, list, VALIDATORS - 1) == BATCHER_SHORT);
+    uint8_t code = batcher_validator_lend(&it->inner, 0, 0, &step, list, VALIDATORS);
     if (code == BATCHER_IDLE) return 0;
     CHECK(code == BATCHER_VERIFY && step.listed <= VALIDATORS);
     for (uint64_t i = 0; i < step.listed; i++) verdicts[i] = attests(step.kind, &step.proposal, &list[i]);
-    CHECK(batcher_loop_conclude(&it->loop, step.kind, &step.proposal, list, step.listed, verdicts, step.listed)
+    CHECK(batcher_validator_conclude(&it->inner, step.kind, &step.proposal, list, step.listed, verdicts, step.listed)
           == BATCHER_DONE);
     return 0;
 }
@@ -273,7 +273,7 @@ static int cast(uint32_t me, uint8_t kind, const struct batcher_proposal *propos
     vote.proposal = *proposal;
     vote.kind = kind;
     vote.attestation = sign(me, kind, proposal);
-    uint8_t code = batcher_loop_cast(&all[me].loop, &vote, attests(kind, proposal, &vote.attestation));
+    uint8_t code = batcher_validator_cast(&all[me].inner, &vote, attests(kind, proposal, &vote.attestation));
     CHECK(code == BATCHER_DONE || code == BATCHER_KNOWN || code == BATCHER_REFUSED);
     return 0;
 }
@@ -296,7 +296,7 @@ static int perform(uint32_t me, const struct batcher_task *task) {
         return 0;
     case BATCHER_TASK_CAST:
         CHECK(attests(task->vote.kind, &task->vote.proposal, &task->vote.attestation));
-        CHECK(batcher_loop_cast(&it->loop, &task->vote, true) != BATCHER_MALFORMED);
+        CHECK(batcher_validator_cast(&it->inner, &task->vote, true) != BATCHER_MALFORMED);
         return 0;
     case BATCHER_TASK_SEND_VOTE:
         CHECK(note_sent(me, &task->vote) == 0);
@@ -310,35 +310,35 @@ static int perform(uint32_t me, const struct batcher_task *task) {
         }
         return 0;
     case BATCHER_TASK_SEND_CERTIFICATE:
-        CHECK(batcher_loop_kept(&it->loop, task->kind, &proposal, message.bytes, sizeof message.bytes, &count)
+        CHECK(batcher_validator_kept(&it->inner, task->kind, &proposal, message.bytes, sizeof message.bytes, &count)
               == BATCHER_DONE);
         message.length = count;
         message.vote.kind = task->kind;
         message.vote.proposal = proposal;
-        CHECK(certifies(&it->loop, &message));
+        CHECK(certifies(&it->inner, &message));
         send_all(&message);
         return 0;
     case BATCHER_TASK_ENTER:
         it->view = proposal.view;
-        CHECK(batcher_loop_enter(&it->loop, it->view, (uint32_t)(it->view % VALIDATORS)) == BATCHER_DONE);
+        CHECK(batcher_validator_enter(&it->inner, it->view, (uint32_t)(it->view % VALIDATORS)) == BATCHER_DONE);
         return 0;
     case BATCHER_TASK_VERIFY: return verify(me);
     case BATCHER_TASK_SIGN: return cast(me, task->kind, &proposal);
     case BATCHER_TASK_PROPOSE:
         memset(proposal.payload, (int)me, sizeof proposal.payload);
         proposal.payload[31] = (uint8_t)proposal.view;
-        CHECK(batcher_loop_judge(&it->loop, &proposal, true) == BATCHER_DONE);
+        CHECK(batcher_validator_judge(&it->inner, &proposal, true) == BATCHER_DONE);
         return 0;
-    case BATCHER_TASK_JUDGE: CHECK(batcher_loop_judge(&it->loop, &proposal, true) == BATCHER_DONE); return 0;
+    case BATCHER_TASK_JUDGE: CHECK(batcher_validator_judge(&it->inner, &proposal, true) == BATCHER_DONE); return 0;
     /* Its certificate was sent just before, and who lacks its payload isn't in it. */
     case BATCHER_TASK_FORWARD: {
         uint32_t lacking[VALIDATORS];
         struct batcher_attestation list[VALIDATORS];
         uint64_t listed = 0;
-        CHECK(batcher_loop_kept(&it->loop, BATCHER_NOTARIZATION, &proposal, message.bytes, sizeof message.bytes, &count)
+        CHECK(batcher_validator_kept(&it->inner, BATCHER_NOTARIZATION, &proposal, message.bytes, sizeof message.bytes, &count)
               == BATCHER_DONE);
-        CHECK(batcher_loop_listed(&it->loop, message.bytes, count, list, VALIDATORS, &listed) == BATCHER_VERIFY);
-        uint8_t code = batcher_loop_lacking(&it->loop, &proposal, lacking, VALIDATORS, &count);
+        CHECK(batcher_validator_listed(&it->inner, message.bytes, count, list, VALIDATORS, &listed) == BATCHER_VERIFY);
+        uint8_t code = batcher_validator_lacking(&it->inner, &proposal, lacking, VALIDATORS, &count);
         /* After a start nothing but the notarization is known of its view. */
         if (code == BATCHER_IDLE) return 0;
         CHECK(code == BATCHER_DONE && count + listed <= VALIDATORS);
@@ -356,7 +356,7 @@ static int go_on(uint32_t me, bool *is_stopped) {
     *is_stopped = false;
     for (;;) {
         int line = 0;
-        uint8_t code = batcher_loop_poll(&all[me].loop, &task);
+        uint8_t code = batcher_validator_poll(&all[me].inner, &task);
         if (code == BATCHER_IDLE) return 0;
         CHECK(code == BATCHER_DONE || code == BATCHER_WRITE);
         if (code == BATCHER_WRITE)
@@ -377,13 +377,13 @@ static int hear(uint32_t me) {
     it->inbox[place] = it->inbox[--it->count];
     uint8_t code;
     if (message.is_vote) {
-        code = batcher_loop_vote(&it->loop, message.from, &message.vote, &admission);
+        code = batcher_validator_vote(&it->inner, message.from, &message.vote, &admission);
     } else {
         bool verdicts[VALIDATORS];
-        size_t given = verdicts_on(&it->loop, &message, verdicts);
-        uint8_t wanted = batcher_loop_wants(&it->loop, message.from, message.vote.kind, &message.vote.proposal);
-        code = batcher_loop_certificate(&it->loop, message.from, message.vote.kind, &message.vote.proposal,
-                                        message.bytes, message.length, verdicts, given);
+        size_t given = verdicts_on(&it->inner, &message, verdicts);
+        uint8_t wanted = batcher_validator_wants(&it->inner, message.from, message.vote.kind, &message.vote.proposal);
+        code = batcher_validator_certificate(&it->inner, message.from, message.vote.kind, &message.vote.proposal,
+                                             message.bytes, message.length, verdicts, given);
         CHECK(code != BATCHER_FORGED);
         CHECK(wanted == BATCHER_DONE || wanted == BATCHER_KNOWN || code == wanted);
     }
@@ -394,7 +394,7 @@ static int hear(uint32_t me) {
 static int restart(uint32_t me) {
     /* What was on its way is lost. */
     all[me].count = 0;
-    batcher_loop_free(&all[me].loop);
+    batcher_validator_free(&all[me].inner);
     return start(me);
 }
 
@@ -418,7 +418,7 @@ static int one_network(uint64_t seed) {
             if ((line = restart(me)) != 0) return line;
         } else if (what < 24) {
             struct batcher_progress progress;
-            CHECK(batcher_loop_expire(&all[me].loop, all[me].view, &progress) == BATCHER_DONE);
+            CHECK(batcher_validator_expire(&all[me].inner, all[me].view, &progress) == BATCHER_DONE);
             CHECK(counts_votes(&progress) && (!progress.has_leader || progress.leader == all[me].view % VALIDATORS));
         } else {
             /* By fewer the inbox fills with what is sent again while nothing is final, and new votes are lost. */
@@ -430,9 +430,9 @@ static int one_network(uint64_t seed) {
     }
     for (uint32_t me = 0; me < VALIDATORS; me++) {
         CHECK(me == EQUIVOCATES || all[me].last >= 20);
-        batcher_loop_free(&all[me].loop);
+        batcher_validator_free(&all[me].inner);
         batcher_files_free(&all[me].files);
-        CHECK(all[me].loop.at == NULL && all[me].files.at == NULL);
+        CHECK(all[me].inner.at == NULL && all[me].files.at == NULL);
     }
     return 0;
 }
@@ -454,7 +454,7 @@ static size_t list_of(uint8_t *bytes, const uint32_t *signers, uint8_t signed_by
 }
 
 /* Which bytes are the list of a quorum, and what becomes of a certificate by verdicts on one. */
-static int lists(struct batcher_loop *loop) {
+static int lists(struct batcher_validator *validator) {
     static const uint32_t quorum[] = {3, 0, 2}, twice[] = {3, 0, 3}, other[] = {3, 0, VALIDATORS};
     struct batcher_attestation list[VALIDATORS];
     struct batcher_proposal proposal;
@@ -464,38 +464,38 @@ static int lists(struct batcher_loop *loop) {
     memset(&proposal, 0, sizeof proposal);
     proposal.view = 2;
     size_t length = list_of(bytes, quorum, 3, BATCHER_NOTARIZATION, &proposal);
-    CHECK(batcher_loop_listed(loop, bytes, length, list, VALIDATORS - 1, &count) == BATCHER_SHORT);
-    CHECK(batcher_loop_listed(loop, bytes, length - 1, list, VALIDATORS, &count) == BATCHER_FORGED);
-    CHECK(batcher_loop_listed(loop, bytes, length + 1, list, VALIDATORS, &count) == BATCHER_FORGED);
-    CHECK(batcher_loop_listed(loop, bytes, 0, list, VALIDATORS, &count) == BATCHER_FORGED && count == 7);
-    CHECK(batcher_loop_listed(loop, bytes, length, list, VALIDATORS, &count) == BATCHER_VERIFY && count == 3);
+    CHECK(batcher_validator_listed(validator, bytes, length, list, VALIDATORS - 1, &count) == BATCHER_SHORT);
+    CHECK(batcher_validator_listed(validator, bytes, length - 1, list, VALIDATORS, &count) == BATCHER_FORGED);
+    CHECK(batcher_validator_listed(validator, bytes, length + 1, list, VALIDATORS, &count) == BATCHER_FORGED);
+    CHECK(batcher_validator_listed(validator, bytes, 0, list, VALIDATORS, &count) == BATCHER_FORGED && count == 7);
+    CHECK(batcher_validator_listed(validator, bytes, length, list, VALIDATORS, &count) == BATCHER_VERIFY && count == 3);
     for (int i = 0; i < 3; i++)
         CHECK(list[i].signer == quorum[i] && attests(BATCHER_NOTARIZATION, &proposal, &list[i]));
     bytes[4 + 8] = BATCHER_SIGNATURE_BYTES + 1;
-    CHECK(batcher_loop_listed(loop, bytes, length, list, VALIDATORS, &count) == BATCHER_FORGED);
+    CHECK(batcher_validator_listed(validator, bytes, length, list, VALIDATORS, &count) == BATCHER_FORGED);
     length = list_of(bytes, twice, 3, BATCHER_NOTARIZATION, &proposal);
-    CHECK(batcher_loop_listed(loop, bytes, length, list, VALIDATORS, &count) == BATCHER_FORGED);
+    CHECK(batcher_validator_listed(validator, bytes, length, list, VALIDATORS, &count) == BATCHER_FORGED);
     length = list_of(bytes, other, 3, BATCHER_NOTARIZATION, &proposal);
-    CHECK(batcher_loop_listed(loop, bytes, length, list, VALIDATORS, &count) == BATCHER_FORGED);
+    CHECK(batcher_validator_listed(validator, bytes, length, list, VALIDATORS, &count) == BATCHER_FORGED);
     length = list_of(bytes, quorum, 2, BATCHER_NOTARIZATION, &proposal);
-    CHECK(batcher_loop_listed(loop, bytes, length, list, VALIDATORS, &count) == BATCHER_FORGED);
+    CHECK(batcher_validator_listed(validator, bytes, length, list, VALIDATORS, &count) == BATCHER_FORGED);
     length = list_of(bytes, quorum, 3, BATCHER_NOTARIZATION, &proposal);
-    CHECK(batcher_loop_wants(loop, 0, 3, &proposal) == BATCHER_MALFORMED);
-    CHECK(batcher_loop_wants(loop, 0, BATCHER_NOTARIZATION, &proposal) == BATCHER_DONE);
-    CHECK(batcher_loop_wants(loop, VALIDATORS, BATCHER_NOTARIZATION, &proposal) == BATCHER_UNKNOWN);
-    CHECK(batcher_loop_certificate(loop, 0, BATCHER_NOTARIZATION, &proposal, bytes, length, good, 2)
+    CHECK(batcher_validator_wants(validator, 0, 3, &proposal) == BATCHER_MALFORMED);
+    CHECK(batcher_validator_wants(validator, 0, BATCHER_NOTARIZATION, &proposal) == BATCHER_DONE);
+    CHECK(batcher_validator_wants(validator, VALIDATORS, BATCHER_NOTARIZATION, &proposal) == BATCHER_UNKNOWN);
+    CHECK(batcher_validator_certificate(validator, 0, BATCHER_NOTARIZATION, &proposal, bytes, length, good, 2)
           == BATCHER_MALFORMED);
-    CHECK(batcher_loop_certificate(loop, 0, BATCHER_NOTARIZATION, &proposal, bytes, length, good, 3) == BATCHER_DONE);
-    CHECK(batcher_loop_wants(loop, 0, BATCHER_NOTARIZATION, &proposal) == BATCHER_KNOWN);
+    CHECK(batcher_validator_certificate(validator, 0, BATCHER_NOTARIZATION, &proposal, bytes, length, good, 3) == BATCHER_DONE);
+    CHECK(batcher_validator_wants(validator, 0, BATCHER_NOTARIZATION, &proposal) == BATCHER_KNOWN);
     proposal.epoch = 1;
-    CHECK(batcher_loop_wants(loop, 0, BATCHER_NOTARIZATION, &proposal) == BATCHER_ELSEWHERE);
+    CHECK(batcher_validator_wants(validator, 0, BATCHER_NOTARIZATION, &proposal) == BATCHER_ELSEWHERE);
     return 0;
 }
 
 /* What a caller may do wrong. */
 static int mistakes(void) {
-    struct batcher_loop loop = {0};
-    struct batcher_loop_options options;
+    struct batcher_validator validator = {0};
+    struct batcher_validator_options options;
     struct batcher_admission admission;
     struct batcher_proposal proposal;
     struct batcher_attestation list[VALIDATORS];
@@ -512,122 +512,122 @@ static int mistakes(void) {
     memset(&proposal, 0, sizeof proposal);
     memset(&vote, 0, sizeof vote);
     memset(&task, 0, sizeof task);
-    CHECK(batcher_loop_poll(&loop, &task) == BATCHER_NONE && batcher_loop_hears(&loop, 0) == BATCHER_NONE);
-    CHECK(batcher_loop_give(&loop, 0, room, ROOM, &count, &replaces) == BATCHER_NONE);
-    CHECK(batcher_loop_message(&loop, 0, &proposal, room, ROOM, &count) == BATCHER_NONE);
-    CHECK(batcher_loop_progress(&loop, 1, &progress) == BATCHER_NONE);
-    CHECK(batcher_loop_views(&loop, &count, &last) == BATCHER_NONE);
-    CHECK(batcher_loop_listed(&loop, room, 0, list, VALIDATORS, &count) == BATCHER_NONE);
-    CHECK(batcher_loop_wants(&loop, 0, 0, &proposal) == BATCHER_NONE);
+    CHECK(batcher_validator_poll(&validator, &task) == BATCHER_NONE && batcher_validator_hears(&validator, 0) == BATCHER_NONE);
+    CHECK(batcher_validator_give(&validator, 0, room, ROOM, &count, &replaces) == BATCHER_NONE);
+    CHECK(batcher_validator_message(&validator, 0, &proposal, room, ROOM, &count) == BATCHER_NONE);
+    CHECK(batcher_validator_progress(&validator, 1, &progress) == BATCHER_NONE);
+    CHECK(batcher_validator_views(&validator, &count, &last) == BATCHER_NONE);
+    CHECK(batcher_validator_listed(&validator, room, 0, list, VALIDATORS, &count) == BATCHER_NONE);
+    CHECK(batcher_validator_wants(&validator, 0, 0, &proposal) == BATCHER_NONE);
     CHECK(batcher_message(NULL, 0, 3, &proposal, room, ROOM, &count) == BATCHER_MALFORMED);
-    CHECK(batcher_loop_lacking(&loop, &proposal, lacking, 1, &count) == BATCHER_NONE);
-    CHECK(batcher_loop_start(&loop, &options, NULL, 0, NULL, 0, NULL, 0) == BATCHER_MALFORMED);
+    CHECK(batcher_validator_lacking(&validator, &proposal, lacking, 1, &count) == BATCHER_NONE);
+    CHECK(batcher_validator_start(&validator, &options, NULL, 0, NULL, 0, NULL, 0) == BATCHER_MALFORMED);
     options.participants = VALIDATORS;
     options.participant = VALIDATORS;
     options.ahead = 8;
-    CHECK(batcher_loop_start(&loop, &options, NULL, 0, NULL, 0, NULL, 0) == BATCHER_MALFORMED);
+    CHECK(batcher_validator_start(&validator, &options, NULL, 0, NULL, 0, NULL, 0) == BATCHER_MALFORMED);
     options.participant = 1;
-    CHECK(batcher_loop_start(&loop, &options, NULL, 0, NULL, 0, NULL, 0) == BATCHER_NOT_BEGUN);
-    CHECK(batcher_loop_start(&loop, &options, NULL, 0, (const uint8_t *)"abc", 3, NULL, 0) == BATCHER_OTHER_VERSION);
+    CHECK(batcher_validator_start(&validator, &options, NULL, 0, NULL, 0, NULL, 0) == BATCHER_NOT_BEGUN);
+    CHECK(batcher_validator_start(&validator, &options, NULL, 0, (const uint8_t *)"abc", 3, NULL, 0) == BATCHER_OTHER_VERSION);
     options.begins = true;
-    CHECK(batcher_loop_start(&loop, &options, NULL, 0, (const uint8_t *)"abc", 3, NULL, 0) == BATCHER_BEGUN);
-    CHECK(loop.at == NULL);
-    CHECK(batcher_loop_start(&loop, &options, (const uint8_t *)"c", 1, NULL, 0, NULL, 0) == BATCHER_DONE);
+    CHECK(batcher_validator_start(&validator, &options, NULL, 0, (const uint8_t *)"abc", 3, NULL, 0) == BATCHER_BEGUN);
+    CHECK(validator.at == NULL);
+    CHECK(batcher_validator_start(&validator, &options, (const uint8_t *)"c", 1, NULL, 0, NULL, 0) == BATCHER_DONE);
     /* Nothing is done before its journal is written. */
-    CHECK(batcher_loop_poll(&loop, &task) == BATCHER_WRITE && batcher_loop_poll(&loop, &task) == BATCHER_WRITE);
-    CHECK(batcher_loop_give(&loop, 0, room, ROOM, &count, &replaces) == BATCHER_DONE && count > 0);
+    CHECK(batcher_validator_poll(&validator, &task) == BATCHER_WRITE && batcher_validator_poll(&validator, &task) == BATCHER_WRITE);
+    CHECK(batcher_validator_give(&validator, 0, room, ROOM, &count, &replaces) == BATCHER_DONE && count > 0);
     /* It is given once, and what is sent waits for it. */
-    CHECK(batcher_loop_give(&loop, 1, room, ROOM, &count, &replaces) == BATCHER_IDLE);
-    CHECK(batcher_loop_wrote(&loop, 1) == BATCHER_NOT_GIVEN && batcher_loop_wrote(&loop, 0) == BATCHER_DONE);
-    CHECK(batcher_loop_poll(&loop, &task) == BATCHER_DONE && task.task == BATCHER_TASK_ENTER);
+    CHECK(batcher_validator_give(&validator, 1, room, ROOM, &count, &replaces) == BATCHER_IDLE);
+    CHECK(batcher_validator_wrote(&validator, 1) == BATCHER_NOT_GIVEN && batcher_validator_wrote(&validator, 0) == BATCHER_DONE);
+    CHECK(batcher_validator_poll(&validator, &task) == BATCHER_DONE && task.task == BATCHER_TASK_ENTER);
     CHECK(task.proposal.view == 1 && task.proposal.epoch == 0);
-    CHECK(batcher_loop_poll(&loop, &task) == BATCHER_IDLE);
+    CHECK(batcher_validator_poll(&validator, &task) == BATCHER_IDLE);
     /* What is signed is the namespace, with how many bytes it has, and the subject. */
     proposal.view = 5;
-    CHECK(batcher_loop_message(&loop, 3, &proposal, room, ROOM, &count) == BATCHER_MALFORMED);
-    CHECK(batcher_loop_message(&loop, BATCHER_FINALIZATION, &proposal, room, 65, &count) == BATCHER_SHORT);
+    CHECK(batcher_validator_message(&validator, 3, &proposal, room, ROOM, &count) == BATCHER_MALFORMED);
+    CHECK(batcher_validator_message(&validator, BATCHER_FINALIZATION, &proposal, room, 65, &count) == BATCHER_SHORT);
     CHECK(count == 66);
-    CHECK(batcher_loop_message(&loop, BATCHER_NULLIFICATION, &proposal, room, 26, &count) == BATCHER_DONE);
+    CHECK(batcher_validator_message(&validator, BATCHER_NULLIFICATION, &proposal, room, 26, &count) == BATCHER_DONE);
     CHECK(count == 26);
     CHECK(memcmp(room, "\0\0\0\0\0\0\0\1c\1\0\0\0\0\0\0\0\0\0\0\0\0\0\0\0\5", 26) == 0);
     proposal.view = 0;
     /* Nobody has entered a view, and nothing was said in it. */
-    CHECK(batcher_loop_views(&loop, &count, &last) == BATCHER_DONE && count == 0 && last == 0);
-    CHECK(batcher_loop_progress(&loop, 1, &progress) == BATCHER_DONE && !progress.has_leader && !progress.has_proposal);
+    CHECK(batcher_validator_views(&validator, &count, &last) == BATCHER_DONE && count == 0 && last == 0);
+    CHECK(batcher_validator_progress(&validator, 1, &progress) == BATCHER_DONE && !progress.has_leader && !progress.has_proposal);
     CHECK(progress.nullifies.pending + progress.nullifies.verified == 0 && !progress.nullifies.certified);
-    CHECK(batcher_loop_enter(&loop, 1, 0) == BATCHER_DONE);
-    CHECK(batcher_loop_views(&loop, &count, &last) == BATCHER_DONE && count == 1 && last == 0);
-    CHECK(batcher_loop_progress(&loop, 1, &progress) == BATCHER_DONE && progress.has_leader && progress.leader == 0);
+    CHECK(batcher_validator_enter(&validator, 1, 0) == BATCHER_DONE);
+    CHECK(batcher_validator_views(&validator, &count, &last) == BATCHER_DONE && count == 1 && last == 0);
+    CHECK(batcher_validator_progress(&validator, 1, &progress) == BATCHER_DONE && progress.has_leader && progress.leader == 0);
     vote.kind = 3;
-    CHECK(batcher_loop_vote(&loop, 2, &vote, &admission) == BATCHER_MALFORMED);
-    CHECK(batcher_loop_cast(&loop, &vote, true) == BATCHER_MALFORMED);
+    CHECK(batcher_validator_vote(&validator, 2, &vote, &admission) == BATCHER_MALFORMED);
+    CHECK(batcher_validator_cast(&validator, &vote, true) == BATCHER_MALFORMED);
     vote.kind = BATCHER_NULLIFICATION;
     vote.proposal.view = 1;
     vote.attestation.signer = 2;
-    CHECK(batcher_loop_cast(&loop, &vote, false) == BATCHER_NOT_VERIFIED);
-    CHECK(batcher_loop_cast(&loop, &vote, true) == BATCHER_NOT_OWN);
+    CHECK(batcher_validator_cast(&validator, &vote, false) == BATCHER_NOT_VERIFIED);
+    CHECK(batcher_validator_cast(&validator, &vote, true) == BATCHER_NOT_OWN);
     vote.attestation.signer = VALIDATORS;
-    CHECK(batcher_loop_cast(&loop, &vote, true) == BATCHER_NOT_VERIFIED);
+    CHECK(batcher_validator_cast(&validator, &vote, true) == BATCHER_NOT_VERIFIED);
     vote.attestation.signer = 2;
-    CHECK(batcher_loop_vote(&loop, VALIDATORS, &vote, &admission) == BATCHER_UNKNOWN);
-    CHECK(batcher_loop_certificate(&loop, 2, 3, &proposal, room, 0, NULL, 0) == BATCHER_MALFORMED);
+    CHECK(batcher_validator_vote(&validator, VALIDATORS, &vote, &admission) == BATCHER_UNKNOWN);
+    CHECK(batcher_validator_certificate(&validator, 2, 3, &proposal, room, 0, NULL, 0) == BATCHER_MALFORMED);
     proposal.view = 1;
-    CHECK(batcher_loop_kept(&loop, 3, &proposal, room, ROOM, &count) == BATCHER_MALFORMED);
-    CHECK(batcher_loop_kept(&loop, BATCHER_NULLIFICATION, &proposal, room, ROOM, &count) == BATCHER_IDLE);
-    CHECK(batcher_loop_conclude(&loop, 3, &proposal, list, 0, &verdict, 0) == BATCHER_MALFORMED);
-    CHECK(batcher_loop_conclude(&loop, 0, &proposal, list, 0, &verdict, 1) == BATCHER_MALFORMED);
-    CHECK(batcher_loop_conclude(&loop, 0, &proposal, list, 0, &verdict, 0) == BATCHER_STALE);
-    CHECK(batcher_loop_lend(&loop, 0, 0, &step, list, VALIDATORS - 1) == BATCHER_SHORT);
-    CHECK(batcher_loop_lend(&loop, 0, 0, &step, list, VALIDATORS) == BATCHER_IDLE);
+    CHECK(batcher_validator_kept(&validator, 3, &proposal, room, ROOM, &count) == BATCHER_MALFORMED);
+    CHECK(batcher_validator_kept(&validator, BATCHER_NULLIFICATION, &proposal, room, ROOM, &count) == BATCHER_IDLE);
+    CHECK(batcher_validator_conclude(&validator, 3, &proposal, list, 0, &verdict, 0) == BATCHER_MALFORMED);
+    CHECK(batcher_validator_conclude(&validator, 0, &proposal, list, 0, &verdict, 1) == BATCHER_MALFORMED);
+    CHECK(batcher_validator_conclude(&validator, 0, &proposal, list, 0, &verdict, 0) == BATCHER_STALE);
+    CHECK(batcher_validator_lend(&validator, 0, 0, &step, list, VALIDATORS - 1) == BATCHER_SHORT);
+    CHECK(batcher_validator_lend(&validator, 0, 0, &step, list, VALIDATORS) == BATCHER_IDLE);
     /* A certificate that is forged blocks its peer, and a good one from beyond the window is taken in. */
-    CHECK(batcher_loop_certificate(&loop, 3, BATCHER_NULLIFICATION, &proposal, room, 9, NULL, 0) == BATCHER_FORGED);
-    CHECK(batcher_loop_poll(&loop, &task) == BATCHER_DONE && task.task == BATCHER_TASK_BLOCK);
+    CHECK(batcher_validator_certificate(&validator, 3, BATCHER_NULLIFICATION, &proposal, room, 9, NULL, 0) == BATCHER_FORGED);
+    CHECK(batcher_validator_poll(&validator, &task) == BATCHER_DONE && task.task == BATCHER_TASK_BLOCK);
     CHECK(task.participant == 3 && task.cause == BATCHER_CAUSE_CERTIFICATE);
     proposal.view = 100;
-    CHECK(batcher_loop_hears(&loop, 2) == BATCHER_DONE && batcher_loop_hears(&loop, VALIDATORS) == BATCHER_DROPPED);
+    CHECK(batcher_validator_hears(&validator, 2) == BATCHER_DONE && batcher_validator_hears(&validator, VALIDATORS) == BATCHER_DROPPED);
     size_t length = list_of(room, signers, 3, BATCHER_FINALIZATION, &proposal);
     verdicts[1] = false;
-    CHECK(batcher_loop_certificate(&loop, 2, BATCHER_FINALIZATION, &proposal, room, length, verdicts, 3)
+    CHECK(batcher_validator_certificate(&validator, 2, BATCHER_FINALIZATION, &proposal, room, length, verdicts, 3)
           == BATCHER_FORGED);
-    CHECK(batcher_loop_hears(&loop, 2) == BATCHER_DROPPED);
-    CHECK(batcher_loop_wants(&loop, 2, BATCHER_FINALIZATION, &proposal) == BATCHER_DROPPED);
-    CHECK(batcher_loop_poll(&loop, &task) == BATCHER_DONE && task.task == BATCHER_TASK_BLOCK);
+    CHECK(batcher_validator_hears(&validator, 2) == BATCHER_DROPPED);
+    CHECK(batcher_validator_wants(&validator, 2, BATCHER_FINALIZATION, &proposal) == BATCHER_DROPPED);
+    CHECK(batcher_validator_poll(&validator, &task) == BATCHER_DONE && task.task == BATCHER_TASK_BLOCK);
     CHECK(task.participant == 2 && task.cause == BATCHER_CAUSE_CERTIFICATE);
     verdicts[1] = true;
-    CHECK(batcher_loop_certificate(&loop, 2, BATCHER_FINALIZATION, &proposal, room, length, verdicts, 3)
+    CHECK(batcher_validator_certificate(&validator, 2, BATCHER_FINALIZATION, &proposal, room, length, verdicts, 3)
           == BATCHER_DROPPED);
-    CHECK(batcher_loop_certificate(&loop, 0, BATCHER_FINALIZATION, &proposal, room, length, verdicts, 3)
+    CHECK(batcher_validator_certificate(&validator, 0, BATCHER_FINALIZATION, &proposal, room, length, verdicts, 3)
           == BATCHER_DONE);
-    CHECK(batcher_loop_hears(&loop, 0) == BATCHER_DONE);
-    CHECK(batcher_loop_kept(&loop, BATCHER_FINALIZATION, &proposal, room, 8, &count) == BATCHER_SHORT);
+    CHECK(batcher_validator_hears(&validator, 0) == BATCHER_DONE);
+    CHECK(batcher_validator_kept(&validator, BATCHER_FINALIZATION, &proposal, room, 8, &count) == BATCHER_SHORT);
     CHECK(count == length);
-    CHECK(batcher_loop_certified(&loop, 3, &proposal) == BATCHER_MALFORMED);
-    CHECK(batcher_loop_certified(&loop, BATCHER_NULLIFICATION, &proposal) == BATCHER_IDLE);
-    CHECK(batcher_loop_certified(&loop, BATCHER_FINALIZATION, &proposal) == BATCHER_DONE);
+    CHECK(batcher_validator_certified(&validator, 3, &proposal) == BATCHER_MALFORMED);
+    CHECK(batcher_validator_certified(&validator, BATCHER_NULLIFICATION, &proposal) == BATCHER_IDLE);
+    CHECK(batcher_validator_certified(&validator, BATCHER_FINALIZATION, &proposal) == BATCHER_DONE);
     /* Its view is the final one, which is to be written. Until then no certificate is shown. */
-    CHECK(batcher_loop_poll(&loop, &task) == BATCHER_DONE && task.task == BATCHER_TASK_FINAL);
-    CHECK(batcher_loop_kept(&loop, BATCHER_FINALIZATION, &proposal, room, ROOM, &count) == BATCHER_NOT_WRITTEN);
-    CHECK(batcher_loop_give(&loop, 1, room, ROOM, &count, &replaces) == BATCHER_DONE && replaces);
-    CHECK(batcher_loop_kept(&loop, BATCHER_FINALIZATION, &proposal, room, ROOM, &count) == BATCHER_NOT_WRITTEN);
-    CHECK(batcher_loop_wrote(&loop, 1) == BATCHER_DONE);
-    CHECK(batcher_loop_kept(&loop, BATCHER_FINALIZATION, &proposal, room, ROOM, &count) == BATCHER_DONE);
+    CHECK(batcher_validator_poll(&validator, &task) == BATCHER_DONE && task.task == BATCHER_TASK_FINAL);
+    CHECK(batcher_validator_kept(&validator, BATCHER_FINALIZATION, &proposal, room, ROOM, &count) == BATCHER_NOT_WRITTEN);
+    CHECK(batcher_validator_give(&validator, 1, room, ROOM, &count, &replaces) == BATCHER_DONE && replaces);
+    CHECK(batcher_validator_kept(&validator, BATCHER_FINALIZATION, &proposal, room, ROOM, &count) == BATCHER_NOT_WRITTEN);
+    CHECK(batcher_validator_wrote(&validator, 1) == BATCHER_DONE);
+    CHECK(batcher_validator_kept(&validator, BATCHER_FINALIZATION, &proposal, room, ROOM, &count) == BATCHER_DONE);
     CHECK(count == length);
     /* The bytes are of another participant, of another epoch, or are damaged. */
-    CHECK(batcher_loop_start(&loop, &options, (const uint8_t *)"c", 1, NULL, 0, NULL, 0) == BATCHER_DONE);
-    CHECK(batcher_loop_give(&loop, 0, room, ROOM, &count, &replaces) == BATCHER_DONE);
+    CHECK(batcher_validator_start(&validator, &options, (const uint8_t *)"c", 1, NULL, 0, NULL, 0) == BATCHER_DONE);
+    CHECK(batcher_validator_give(&validator, 0, room, ROOM, &count, &replaces) == BATCHER_DONE);
     options.begins = false;
-    CHECK(batcher_loop_start(&loop, &options, (const uint8_t *)"d", 1, room, count, NULL, 0) == BATCHER_OTHER_OWNER);
+    CHECK(batcher_validator_start(&validator, &options, (const uint8_t *)"d", 1, room, count, NULL, 0) == BATCHER_OTHER_OWNER);
     options.epoch = 1;
-    CHECK(batcher_loop_start(&loop, &options, (const uint8_t *)"c", 1, room, count, NULL, 0) == BATCHER_OTHER_OWNER);
+    CHECK(batcher_validator_start(&validator, &options, (const uint8_t *)"c", 1, room, count, NULL, 0) == BATCHER_OTHER_OWNER);
     options.epoch = 0;
-    CHECK(batcher_loop_start(&loop, &options, (const uint8_t *)"c", 1, room, count - 1, NULL, 0) == BATCHER_DAMAGED);
-    CHECK(batcher_loop_start(&loop, &options, (const uint8_t *)"c", 1, room, count, NULL, 0) == BATCHER_DONE);
-    batcher_loop_free(&loop);
-    batcher_loop_free(&loop);
+    CHECK(batcher_validator_start(&validator, &options, (const uint8_t *)"c", 1, room, count - 1, NULL, 0) == BATCHER_DAMAGED);
+    CHECK(batcher_validator_start(&validator, &options, (const uint8_t *)"c", 1, room, count, NULL, 0) == BATCHER_DONE);
+    batcher_validator_free(&validator);
+    batcher_validator_free(&validator);
     options.begins = true;
-    CHECK(batcher_loop_start(&loop, &options, (const uint8_t *)"c", 1, NULL, 0, NULL, 0) == BATCHER_DONE);
-    int line = lists(&loop);
-    batcher_loop_free(&loop);
+    CHECK(batcher_validator_start(&validator, &options, (const uint8_t *)"c", 1, NULL, 0, NULL, 0) == BATCHER_DONE);
+    int line = lists(&validator);
+    batcher_validator_free(&validator);
     return line;
 }
 

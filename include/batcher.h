@@ -2,15 +2,15 @@
  * defines `rattle_alloc`, `rattle_dealloc` and `rattle_realloc` below, as c/heap.c does.
  *
  * What a caller owes, which nothing here can test:
- *   - a handle, a `struct batcher_round`, `batcher_loop` or `batcher_files`, begins as {0}, is in one call at
+ *   - a handle, a `struct batcher_round`, `batcher_validator` or `batcher_files`, begins as {0}, is in one call at
  *     a time, on one thread, and its pointer is neither copied nor written;
  *   - each pointer is to a live value of its type that nobody else writes meanwhile, or to as many as
  *     the length after it says; a `bool` is 0 or 1; pointers that are written through don't overlap;
  *   - a verdict is true: of a signature of that participant on that subject, by the keys of the round
  *     or validator.
  * All else is tested: on an empty handle, for a code that means nothing, for a length that is too large
- * and for a vote of another round a call answers a code, and changes nothing. A leader's index alone
- * isn't looked at, and nor is whether a view is final. */
+ * and for a vote of another round a call answers a code, and changes nothing. The index of a
+ * round's leader alone isn't looked at, and nor is whether a view is final. */
 #ifndef BATCHER_H
 #define BATCHER_H
 
@@ -29,7 +29,7 @@ struct batcher_round {
     void *at; /* null: none */
 };
 
-struct batcher_loop {
+struct batcher_validator {
     void *at; /* null: none */
 };
 
@@ -41,7 +41,7 @@ struct batcher_files {
 enum batcher_code {
     BATCHER_DONE, /* of a construction: a batch was made */
     BATCHER_NONE, /* the handle is empty */
-    BATCHER_MALFORMED, /* a code or length that means nothing, or a signer that takes no part */
+    BATCHER_MALFORMED, /* a code, a length or a number that is out of bounds, or a signer that takes no part */
     BATCHER_ELSEWHERE, /* of another round, or of a view outside of the window */
     BATCHER_OUT_OF_MEMORY, /* all is as it was, but that an own vote may be written: call again */
     BATCHER_LEADER_CHANGED, /* another leader was named before */
@@ -55,7 +55,7 @@ enum batcher_code {
     BATCHER_VERIFY, /* verdicts are wanted on the attestations of the list */
     BATCHER_STALE, /* the subject or the list isn't what is asked about first: none of it is taken in */
     BATCHER_DROPPED, /* of a peer that was blocked before, so it wasn't looked at */
-    BATCHER_UNKNOWN, /* of a peer that takes no part, so it wasn't looked at */
+    BATCHER_UNKNOWN, /* of a peer or a leader that takes no part, so it wasn't looked at */
     BATCHER_PASSED, /* the view is before the finalized one */
     BATCHER_KNOWN, /* one of its kind was there, so it isn't to be sent, or wasn't looked at */
     BATCHER_FORGED, /* the certificate doesn't certify what it names, and its peer is blocked */
@@ -124,7 +124,7 @@ enum batcher_task_code {
     BATCHER_TASK_SEND_VOTE, /* send `vote` to all others */
     BATCHER_TASK_SEND_CERTIFICATE, /* send that of `kind` and the round of `proposal` to all others */
     BATCHER_TASK_ENTER, /* enter the view of `proposal` with its leader, and start its timer */
-    BATCHER_TASK_VERIFY, /* have what `batcher_loop_lend` lends verified */
+    BATCHER_TASK_VERIFY, /* have what `batcher_validator_lend` lends verified */
     BATCHER_TASK_SIGN, /* sign `kind` and `proposal`, and cast the vote */
     BATCHER_TASK_PROPOSE, /* make the payload of `proposal`, and judge it to be valid */
     BATCHER_TASK_JUDGE, /* judge whether `proposal` is valid */
@@ -229,11 +229,17 @@ struct batcher_round_options {
     bool batchable; /* it waits for a quorum before it wants verdicts */
 };
 
-/* What a validator is made of. */
-struct batcher_loop_options {
+/* The most participants of a validator, and the most views ahead of which it takes something in: a faulty participant
+ * can have it keep something of each. */
+#define BATCHER_MOST_PARTICIPANTS 65535
+#define BATCHER_MOST_AHEAD 1024
+
+/* What a validator is made of. MALFORMED: there are too many participants or views ahead, or `participant` is none
+ * of them. */
+struct batcher_validator_options {
     uint64_t epoch;
-    uint64_t ahead; /* how many views beyond the current one are of its window */
-    uint32_t participants;
+    uint64_t ahead; /* how many views beyond the current one are of its window, BATCHER_MOST_AHEAD at most */
+    uint32_t participants; /* BATCHER_MOST_PARTICIPANTS at most */
     uint32_t participant; /* which of them it is */
     uint8_t keys[32];
     bool track_historical_votes; /* votes are kept in full to their round's end */
@@ -241,8 +247,8 @@ struct batcher_loop_options {
 };
 
 /* Does nothing. Its name has the version of this header, so a library of another one doesn't link. */
-void batcher_abi_7(void);
-__attribute__((used)) static void (*const batcher_abi)(void) = batcher_abi_7;
+void batcher_abi_8(void);
+__attribute__((used)) static void (*const batcher_abi)(void) = batcher_abi_8;
 
 /* The library takes its memory by these three, which a program defines: c/heap.c does, over malloc. A block
  * is aligned by 16, and `at` is never null, also where the request is refused. */
@@ -274,7 +280,7 @@ static inline const char *batcher_code_text(uint8_t code) {
     case BATCHER_VERIFY: return "verdicts are wanted";
     case BATCHER_STALE: return "others are asked about first";
     case BATCHER_DROPPED: return "its peer is blocked";
-    case BATCHER_UNKNOWN: return "its peer takes no part";
+    case BATCHER_UNKNOWN: return "its peer or its leader takes no part";
     case BATCHER_PASSED: return "the view is before the finalized one";
     case BATCHER_KNOWN: return "one of its kind was there";
     case BATCHER_FORGED: return "the certificate doesn't certify what it names";
@@ -374,77 +380,77 @@ uint8_t batcher_round_construct_together(struct batcher_round *round, uint8_t ki
                                          struct batcher_step *out);
 
 /* The votes that the disk of a validator shows: its own, and those that its certificates list. Verify each before
- * `batcher_loop_start`: they are sent again. `count` has how many they are. SHORT: the list is too short for so
+ * `batcher_validator_start`: they are sent again. `count` has how many they are. SHORT: the list is too short for so
  * many, and stays as it was. NOT_VERIFIED: a certificate there lists no quorum. Else the code is that of
- * `batcher_loop_start`. */
-uint8_t batcher_loop_disk(const struct batcher_loop_options *options, const uint8_t *namespace_bytes,
-                          size_t namespace_bytes_length, const uint8_t *disk, size_t disk_length,
-                          struct batcher_vote *list, size_t list_length, uint64_t *count);
+ * `batcher_validator_start`. */
+uint8_t batcher_validator_disk(const struct batcher_validator_options *options, const uint8_t *namespace_bytes,
+                               size_t namespace_bytes_length, const uint8_t *disk, size_t disk_length,
+                               struct batcher_vote *list, size_t list_length, uint64_t *count);
 
 /* A validator: it takes in what comes, votes by the rules, and says what is to be done next. `poll` after
  * each call, until it is IDLE. Its disk has the bytes `disk`; where it `begins`, none. The namespace keeps
  * its votes apart from those of other uses of the keys. There is a verdict on each vote that its disk shows.
  * NOT_VERIFIED: one has none, or doesn't attest. Where it is DONE, the handle's earlier one is freed. */
-uint8_t batcher_loop_start(struct batcher_loop *validator, const struct batcher_loop_options *options,
-                           const uint8_t *namespace_bytes, size_t namespace_bytes_length, const uint8_t *disk,
-                           size_t disk_length, const bool *verdicts, size_t verdicts_length);
+uint8_t batcher_validator_start(struct batcher_validator *validator, const struct batcher_validator_options *options,
+                                const uint8_t *namespace_bytes, size_t namespace_bytes_length, const uint8_t *disk,
+                                size_t disk_length, const bool *verdicts, size_t verdicts_length);
 
 /* Frees the validator, if there is one. */
-void batcher_loop_free(struct batcher_loop *validator);
+void batcher_validator_free(struct batcher_validator *validator);
 
-/* What is to be done next. DONE: the task, once. WRITE: nothing is, until `batcher_loop_give` has given what is
+/* What is to be done next. DONE: the task, once. WRITE: nothing is, until `batcher_validator_give` has given what is
  * to be written. IDLE: nothing is, until something comes, or a write is done: while one is under way, what is
  * sent, signed or final waits. FULL and CLOSED: start it again, by what is on the disk. */
-uint8_t batcher_loop_poll(struct batcher_loop *validator, struct batcher_task *out);
+uint8_t batcher_validator_poll(struct batcher_validator *validator, struct batcher_task *out);
 
 /* What is to be written to the disk, so that a crash leaves all of it or none: in the place of all that is
  * there where it `replaces`, and else behind it. It is given once, and under way from then on by this number, of
  * your own: give no two writes of a program the same, so that what one of an earlier start is confirmed by isn't
  * taken for another's. SHORT: the room is too short for so many, and nothing is under way. IDLE: nothing is to be
  * written, or a write is under way. */
-uint8_t batcher_loop_give(struct batcher_loop *validator, uint64_t number, uint8_t *room, size_t room_length,
-                          uint64_t *count, bool *replaces);
+uint8_t batcher_validator_give(struct batcher_validator *validator, uint64_t number, uint8_t *room, size_t room_length,
+                               uint64_t *count, bool *replaces);
 
 /* The write of this number is done, and lasts: what was given then, and nothing that came since. Where it
  * failed, start the validator again by the disk. NOT_GIVEN: none is under way by this number. */
-uint8_t batcher_loop_wrote(struct batcher_loop *validator, uint64_t number);
+uint8_t batcher_validator_wrote(struct batcher_validator *validator, uint64_t number);
 
 /* A vote of the peer whose key is the number, who is authenticated. */
-uint8_t batcher_loop_vote(struct batcher_loop *validator, uint64_t peer, const struct batcher_vote *vote,
-                          struct batcher_admission *out);
+uint8_t batcher_validator_vote(struct batcher_validator *validator, uint64_t peer, const struct batcher_vote *vote,
+                               struct batcher_admission *out);
 
 /* A certificate of a peer, as bytes, and whether each of the attestations that they list attests what it names.
- * It certifies where all do. Bytes that list none, as `batcher_loop_listed` says, take no verdicts. By one from beyond
- * the window a validator that fell behind goes on, since it is learned. FORGED: its peer is given to be blocked next.
- * MALFORMED also where there isn't one verdict on each. */
-uint8_t batcher_loop_certificate(struct batcher_loop *validator, uint64_t peer, uint8_t kind,
-                                 const struct batcher_proposal *proposal, const uint8_t *bytes,
-                                 size_t bytes_length, const bool *verdicts, size_t verdicts_length);
+ * It certifies where all do. Bytes that list none, as `batcher_validator_listed` says, take no verdicts. By one from
+ * beyond the window a validator that fell behind goes on, since it is learned. FORGED: its peer is given to be blocked
+ * next. MALFORMED also where there isn't one verdict on each. */
+uint8_t batcher_validator_certificate(struct batcher_validator *validator, uint64_t peer, uint8_t kind,
+                                      const struct batcher_proposal *proposal, const uint8_t *bytes,
+                                      size_t bytes_length, const bool *verdicts, size_t verdicts_length);
 
 /* What the bytes of a certificate list. VERIFY: the attestations of a quorum of different participants, on which
  * verdicts are wanted, and how many they are. FORGED: it is no such list, so nothing is to be verified. SHORT: the
  * list has fewer places than there are participants. */
-uint8_t batcher_loop_listed(const struct batcher_loop *validator, const uint8_t *bytes, size_t bytes_length,
-                            struct batcher_attestation *list, size_t list_length, uint64_t *count);
+uint8_t batcher_validator_listed(const struct batcher_validator *validator, const uint8_t *bytes, size_t bytes_length,
+                                 struct batcher_attestation *list, size_t list_length, uint64_t *count);
 
 /* Whether a certificate of this kind, and of the round of the proposal, is looked at that this peer sends: ask
  * before it is verified. KNOWN, ELSEWHERE, DROPPED and UNKNOWN say why it isn't. */
-uint8_t batcher_loop_wants(const struct batcher_loop *validator, uint64_t peer, uint8_t kind,
-                           const struct batcher_proposal *proposal);
+uint8_t batcher_validator_wants(const struct batcher_validator *validator, uint64_t peer, uint8_t kind,
+                                const struct batcher_proposal *proposal);
 
 /* VERIFY: verdicts are wanted on the attestations of the list. SHORT: the list has fewer places than there
  * are participants. With view 0 they are of the next construction; IDLE: it wants none, and its view rests.
  * With a view they are of a kind of that one, which may not be the next yet: verify them early, and keep the
  * verdicts. Nothing changes then, and IDLE says that the kind isn't ready. */
-uint8_t batcher_loop_lend(struct batcher_loop *validator, uint64_t view, uint8_t kind,
-                          struct batcher_step *out, struct batcher_attestation *list, size_t list_length);
+uint8_t batcher_validator_lend(struct batcher_validator *validator, uint64_t view, uint8_t kind,
+                               struct batcher_step *out, struct batcher_attestation *list, size_t list_length);
 
 /* Whether each attestation that was lent attests. The answer may come late. STALE: others are wanted by
  * now, and the task to verify comes again. */
-uint8_t batcher_loop_conclude(struct batcher_loop *validator, uint8_t kind,
-                              const struct batcher_proposal *proposal,
-                              const struct batcher_attestation *list, size_t list_length,
-                              const bool *verdicts, size_t verdicts_length);
+uint8_t batcher_validator_conclude(struct batcher_validator *validator, uint8_t kind,
+                                   const struct batcher_proposal *proposal,
+                                   const struct batcher_attestation *list, size_t list_length,
+                                   const bool *verdicts, size_t verdicts_length);
 
 /* The bytes to sign for a subject in a namespace, and to verify a signature on it: no other subject has the same
  * ones, and none in another namespace. SHORT: the room is too short for so many. */
@@ -452,57 +458,58 @@ uint8_t batcher_message(const uint8_t *namespace_bytes, size_t namespace_bytes_l
                         const struct batcher_proposal *proposal, uint8_t *room, size_t room_length, uint64_t *count);
 
 /* The same in the namespace of the validator. */
-uint8_t batcher_loop_message(const struct batcher_loop *validator, uint8_t kind,
-                             const struct batcher_proposal *proposal, uint8_t *room, size_t room_length,
-                             uint64_t *count);
+uint8_t batcher_validator_message(const struct batcher_validator *validator, uint8_t kind,
+                                  const struct batcher_proposal *proposal, uint8_t *room, size_t room_length,
+                                  uint64_t *count);
 
 /* A vote of its own, and whether it attests: what was to be signed, or to be cast again. Verify it: all would
  * block a validator that sends one which doesn't. It is sent only where a task says so. NOT_VERIFIED: nothing is
  * written, and it is to be signed again once a time is over; meanwhile another may be. */
-uint8_t batcher_loop_cast(struct batcher_loop *validator, const struct batcher_vote *vote, bool attests);
+uint8_t batcher_validator_cast(struct batcher_validator *validator, const struct batcher_vote *vote, bool attests);
 
-/* The leader can't be changed. Where it is another participant, and is blocked or absent, the view is given up, as by
- * `batcher_loop_expire`, and nothing is sent again. It is absent where no vote and no certificate of the window came of it
- * since twice as many views were entered as there are participants. */
-uint8_t batcher_loop_enter(struct batcher_loop *validator, uint64_t view, uint32_t leader);
+/* The leader can't be changed. UNKNOWN: it takes no part, and nothing changes. Where it is another participant, and is
+ * blocked or absent, the view is given up, as by `batcher_validator_expire`, and nothing is sent again. It is absent
+ * where no vote and no certificate of the window came of it since twice as many views were entered as there are
+ * participants. */
+uint8_t batcher_validator_enter(struct batcher_validator *validator, uint64_t view, uint32_t leader);
 
 /* Whether a proposal is valid. One of its own is. Of one that isn't, the view is given up. */
-uint8_t batcher_loop_judge(struct batcher_loop *validator, const struct batcher_proposal *proposal,
-                           bool valid);
+uint8_t batcher_validator_judge(struct batcher_validator *validator, const struct batcher_proposal *proposal,
+                                bool valid);
 
 /* The time of the view is over, for the first time or again: it is given up, unless its proposal is
  * notarized. What isn't signed by then is to be signed again, and a part of what was sent is sent again: own votes
  * of the current view, the finalization of the final view, the certificates of the two newest views, and in turn
  * those of four others. How far the view is says why it takes so long. */
-uint8_t batcher_loop_expire(struct batcher_loop *validator, uint64_t view, struct batcher_progress *out);
+uint8_t batcher_validator_expire(struct batcher_validator *validator, uint64_t view, struct batcher_progress *out);
 
 /* How far a view is, and so why it hangs. */
-uint8_t batcher_loop_progress(const struct batcher_loop *validator, uint64_t view,
-                              struct batcher_progress *out);
+uint8_t batcher_validator_progress(const struct batcher_validator *validator, uint64_t view,
+                                   struct batcher_progress *out);
 
 /* Which view it is in, and the highest that is final. Each is 0 where there is none yet. */
-uint8_t batcher_loop_views(const struct batcher_loop *validator, uint64_t *current, uint64_t *last);
+uint8_t batcher_validator_views(const struct batcher_validator *validator, uint64_t *current, uint64_t *last);
 
 /* Whether what this peer sends is looked at: ask before its certificate is verified. DROPPED: it isn't. */
-uint8_t batcher_loop_hears(const struct batcher_loop *validator, uint64_t peer);
+uint8_t batcher_validator_hears(const struct batcher_validator *validator, uint64_t peer);
 
 /* The whole proposal of the certificate of this kind and of its round. IDLE: none is kept. */
-uint8_t batcher_loop_certified(const struct batcher_loop *validator, uint8_t kind,
-                               struct batcher_proposal *proposal);
+uint8_t batcher_validator_certified(const struct batcher_validator *validator, uint8_t kind,
+                                    struct batcher_proposal *proposal);
 
 /* The certificate of this kind and of the round of the proposal: its bytes, and the whole proposal. One that
  * it made is its list of attestations. SHORT: the room is too short for so many bytes. IDLE: none is kept.
  * NOT_WRITTEN: it may have an own vote that the disk lacks. */
-uint8_t batcher_loop_kept(const struct batcher_loop *validator, uint8_t kind,
-                          struct batcher_proposal *proposal, uint8_t *room, size_t room_length,
-                          uint64_t *count);
+uint8_t batcher_validator_kept(const struct batcher_validator *validator, uint8_t kind,
+                               struct batcher_proposal *proposal, uint8_t *room, size_t room_length,
+                               uint64_t *count);
 
 /* Who isn't known to have the payload of the proposal that is notarized in the round of this one: neither a vote
  * that came shows it, nor the notarization. The list has as many as it has places, and `count` says how many they
  * are. IDLE: nothing is notarized there, or nothing but that is known of its view, as after a start: then who isn't in
  * the notarization may lack it. */
-uint8_t batcher_loop_lacking(const struct batcher_loop *validator, const struct batcher_proposal *proposal,
-                             uint32_t *list, size_t list_length, uint64_t *count);
+uint8_t batcher_validator_lacking(const struct batcher_validator *validator, const struct batcher_proposal *proposal,
+                                  uint32_t *list, size_t list_length, uint64_t *count);
 
 /* What is in two files that take turns, so that a crash at any moment leaves all that was written, or that and
  * what was being written. Nothing here reads or writes a file: each of the first four calls says what is to be done,

@@ -37,7 +37,13 @@ def name_of(head):
         listed, rest = rest[1 : ends[0]], rest[ends[0] + 1 :]
         parameters = set(re.findall(r"(?:^|,)\s*(?:const\s+)?(\w+)", re.sub(r"<[^<>]*>", "", listed)))
     trait, is_trait, of = rest.partition(" where ")[0].partition(" for ")
-    return words_of(of, parameters) + words_of(trait, parameters) if is_trait else words_of(trait, parameters)
+    if is_trait:
+        return words_of(of, parameters) + words_of(trait, parameters)
+    words = [it.split("::")[-1] for it in re.findall(r"(?<!')\b\w[\w:]*", trait)]
+    if all(it in parameters for it in words[1:]):
+        return words_of(trait, parameters)
+    # An impl for some arguments of a type alone is named by all of them.
+    return "+".join(words)
 
 
 def modules_of(path):

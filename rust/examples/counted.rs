@@ -5,13 +5,13 @@
 //! usage: counted ROUNDS PARTICIPANTS BYTES COURSE
 //!
 //! `made` makes the rounds and drops them, `added` hands in the votes too, and `constructed` makes
-//! the certificates too. `looped` plays as many views of a validator, which leads each of them, and
+//! the certificates too. `validator` plays as many views of a validator, which leads each of them, and
 //! does all that it gives to be done; what is written goes nowhere. In `notarized` and `nullified`
 //! no view is final: in the first each is notarized, and in the second each proposal is bad. In
 //! `passed` each view is given up by the others, before it votes. It leads every other view.
 
-use batcher::looping::{Loop, Options, Task};
 use batcher::positions::Round as Number;
+use batcher::validator::{Options, Task, Validator};
 use batcher::{
     Attestation, Epoch, Participant, Proposal, Round, Scheme, Set, Sha256Digest, Subject, View,
     Vote,
@@ -110,7 +110,7 @@ fn play<const BYTES: usize>(rounds: u32, participants: u32, adds: bool, construc
 fn begun<const BYTES: usize>(
     participants: u32,
     leader: fn(View) -> Participant,
-) -> Loop<[u8; BYTES]> {
+) -> Validator<[u8; BYTES]> {
     let options = Options {
         epoch: Epoch::zero(),
         me: Participant::new(0),
@@ -120,11 +120,11 @@ fn begun<const BYTES: usize>(
         ahead: 4,
         track_historical_votes: true,
     };
-    Loop::begin(&options, leader).expect("memory is there")
+    Validator::begin(&options, leader).expect("memory is there")
 }
 
 /// Writes nowhere, and signs and verifies at no cost. Nothing else is left undone here.
-fn attend<const BYTES: usize>(validator: &mut Loop<[u8; BYTES]>, task: Task<[u8; BYTES]>) {
+fn attend<const BYTES: usize>(validator: &mut Validator<[u8; BYTES]>, task: Task<[u8; BYTES]>) {
     match task {
         Task::Write(write) => {
             validator
@@ -150,7 +150,7 @@ fn attend<const BYTES: usize>(validator: &mut Loop<[u8; BYTES]>, task: Task<[u8;
 
 /// It hears this vote of each of the others.
 fn hear_all<const BYTES: usize>(
-    validator: &mut Loop<[u8; BYTES]>,
+    validator: &mut Validator<[u8; BYTES]>,
     participants: u32,
     subject: Subject,
 ) {
@@ -159,7 +159,7 @@ fn hear_all<const BYTES: usize>(
     }
 }
 
-fn hear<const BYTES: usize>(validator: &mut Loop<[u8; BYTES]>, signer: u32, subject: Subject) {
+fn hear<const BYTES: usize>(validator: &mut Validator<[u8; BYTES]>, signer: u32, subject: Subject) {
     let vote = vote(signer, subject);
     let heard = validator.vote(vote.signer(), &vote);
     black_box(heard.expect("memory is there"));
@@ -170,7 +170,7 @@ fn payload(view: View) -> Sha256Digest {
 }
 
 /// A validator hears the votes of all others in each view, until so many are final.
-fn play_loop<const BYTES: usize>(views: u64, participants: u32) {
+fn play_validator<const BYTES: usize>(views: u64, participants: u32) {
     let mut validator = begun::<BYTES>(participants, |_| Participant::new(0));
     let mut last = 0;
     while last < views {
@@ -249,8 +249,8 @@ fn main() {
     let number = |word: &str| word.parse::<u32>().expect("a number");
     let (views, others) = (number(rounds).into(), number(participants));
     match (&phase[..], &bytes[..]) {
-        ("looped", "8") => return play_loop::<8>(views, others),
-        ("looped", "64") => return play_loop::<64>(views, others),
+        ("validator", "8") => return play_validator::<8>(views, others),
+        ("validator", "64") => return play_validator::<64>(views, others),
         ("notarized", "64") => return play_stall::<64>(views, others, Stall::Notarized),
         ("nullified", "64") => return play_stall::<64>(views, others, Stall::Nullified),
         ("passed", "64") => return play_stall::<64>(views, others, Stall::Passed),

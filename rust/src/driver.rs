@@ -1,11 +1,11 @@
 //! A validator with its disk, its key and its verifier. An application is left with its payloads,
 //! its network and a timer.
 //!
-//! A [`Driver`] has a [`Loop`] and three parts that an application brings: a [`Store`] keeps what
-//! is written ([`Files`] is one), a [`Signer`] has the key, and a [`Verifier`] knows the keys of
-//! all. It writes, signs and verifies by itself, in the right order, and hands each answer to the
-//! loop that asked. What is left comes from [`Driver::poll`], one [`Action`] after the other, and
-//! what peers send goes in by [`Driver::hear`], which says what became of it.
+//! A [`Driver`] has a [`Validator`] and three parts that an application brings: a [`Store`] keeps
+//! what is written ([`Files`] is one), a [`Signer`] has the key, and a [`Verifier`] knows the keys
+//! of all. It writes, signs and verifies by itself, in the right order, and hands each answer to
+//! the validator that asked. What is left comes from [`Driver::poll`], one [`Action`] after the
+//! other, and what peers send goes in by [`Driver::hear`], which says what became of it.
 //!
 //! Four validators of one program, with signatures that protect nothing, and disks that are memory:
 //!
@@ -111,8 +111,8 @@
 //!
 //! # What a caller can do wrong
 //!
-//! A caller of a loop writes, signs and verifies himself. What he could do wrong there is, with a
-//! driver:
+//! A caller of a [`Validator`] writes, signs and verifies himself. What he could do wrong there is,
+//! with a driver:
 //!
 //! | Of writes | Here |
 //! |---|---|
@@ -156,6 +156,7 @@
 //! | take one sender for another | a duty: senders are authenticated |
 //! | say that another view takes too long | [`Driver::expire`] answers None |
 //! | name a leader that takes no part | [`DriveError::Leader`] |
+//! | start with more than 65,535 participants, or look more than 1,024 views ahead | [`StartError::TooMany`] |
 //! | name another leader than the others do | a duty: leaders are the same |
 //!
 //! Of these programs the first is refused for its second judgement, and the second for what it
@@ -199,12 +200,12 @@ mod worker;
 
 use crate::errors::{NoThread, OutOfMemory, SignError, VoteError};
 use crate::files::{Files, Opened};
-pub use crate::looping::{
-    Cause, Counts, KeptError, Listed, Options, PollError, Progress, StartError, Write,
-};
-use crate::looping::{Life, Loop, Receipt, Task, Verdict, Wanted, timeout};
 use crate::messages::{Kind, Proposal, Sha256Digest, Subject};
 use crate::positions::{Epoch, Participant, Round, View};
+pub use crate::validator::{
+    Cause, Counts, KeptError, Listed, Options, PollError, Progress, StartError, Write,
+};
+use crate::validator::{Life, Receipt, Task, Validator, Verdict, Wanted, timeout};
 pub use actions::{Action, Heard, Judge, Propose, Reply, Unsigned};
 pub use errors::{DriveError, OpenError};
 pub use message::Message;
@@ -298,7 +299,7 @@ fn count<G>(lists: &[Wanted<G>]) -> usize {
 /// Where its own short lists are refused memory, the program ends, as elsewhere in Rust; what the
 /// library is refused is an error, after which the same call can be made again.
 pub struct Driver<D: Store, S: Signer, V: Verifier<Signature = S::Signature>> {
-    running: Loop<S::Signature>,
+    running: Validator<S::Signature>,
     store: Worker<D, Write, Result<Write, D::Error>>,
     signer: Worker<S, ToSign, Signed<S>>,
     verifier: Worker<V, Asked<S::Signature>, Verified<S::Signature>>,
@@ -392,8 +393,8 @@ impl<S: Signer, V: Verifier<Signature = S::Signature>> Driver<Files, S, V> {
         };
         let verify = |wanted: &Wanted<_>| on_start(&mut verifier, wanted);
         let mut running = match bytes {
-            None => Loop::begin(options, leader)?,
-            Some(bytes) => Loop::start(options, leader, &bytes, verify)?,
+            None => Validator::begin(options, leader)?,
+            Some(bytes) => Validator::start(options, leader, &bytes, verify)?,
         };
         running.has_files = true;
         // Where its thread has ended, the first write says so.
@@ -421,15 +422,15 @@ impl<D: Store, S: Signer, V: Verifier<Signature = S::Signature>> Driver<D, S, V>
     ) -> Result<Self, StartError> {
         let verify = |wanted: &Wanted<_>| on_start(&mut verifier, wanted);
         let running = match written {
-            [] => Loop::begin(options, leader)?,
-            written => Loop::start(options, leader, written, verify)?,
+            [] => Validator::begin(options, leader)?,
+            written => Validator::start(options, leader, written, verify)?,
         };
         let store = Worker::new(store, write);
         Ok(Driver::of(running, store, options, signer, verifier))
     }
 
     fn of(
-        running: Loop<S::Signature>,
+        running: Validator<S::Signature>,
         store: Worker<D, Write, Result<Write, D::Error>>,
         options: &Options,
         signer: S,
@@ -559,9 +560,6 @@ impl<D: Store, S: Signer, V: Verifier<Signature = S::Signature>> Driver<D, S, V>
             }
             Task::Enter { view, leader } => {
                 (self.view, self.is_expired) = (view, false);
-                if leader.get() >= self.participants {
-                    return Err(DriveError::Leader(view));
-                }
                 Action::Enter { view, leader }
             }
             Task::Propose { view, parent } => Action::Propose(Propose {
@@ -612,8 +610,8 @@ impl<D: Store, S: Signer, V: Verifier<Signature = S::Signature>> Driver<D, S, V>
         match self.store.take() {
             Some(Ok(write)) => match self.running.wrote(write) {
                 Ok(()) => Ok(true),
-                // It is of this loop, and its files have it, so that can't be.
-                Err(_) => Err(DriveError::Loop(PollError::Closed)),
+                // It is of this validator, and its files have it, so that can't be.
+                Err(_) => Err(DriveError::Validator(PollError::Closed)),
             },
             Some(Err(error)) => Err(DriveError::Store(error)),
             None => Ok(false),

@@ -5,8 +5,8 @@
 
 use crate::ffi::lock::Locked;
 use crate::ffi::{code, files};
-use crate::looping::{Life, Loop, Options, StartError, Wanted, Write, reserve_bytes};
 use crate::positions::{Participant, View};
+use crate::validator::{Life, Options, StartError, Validator, Wanted, Write, reserve_bytes};
 use std::fmt;
 use std::fs::{File, OpenOptions};
 use std::io::{self, ErrorKind, Read, Seek, SeekFrom, Write as _};
@@ -60,24 +60,24 @@ pub enum Opened {
 
 impl Opened {
     /// The validator of these files, which begins or goes on, and the files that it writes to. What
-    /// they have is verified first, by `verify` as of [`Loop::start`].
+    /// they have is verified first, by `verify` as of [`Validator::start`].
     ///
     /// # Errors
     ///
-    /// As of [`Loop::begin`] and [`Loop::start`]. The files are closed then.
+    /// As of [`Validator::begin`] and [`Validator::start`]. The files are closed then.
     pub fn start<G>(
         self,
         options: &Options,
         leader: impl Fn(View) -> Participant + 'static,
         verify: impl FnMut(&Wanted<G>) -> Vec<bool>,
-    ) -> Result<(Loop<G>, Files), StartError>
+    ) -> Result<(Validator<G>, Files), StartError>
     where
         G: Clone + AsRef<[u8]> + for<'b> TryFrom<&'b [u8]>,
     {
         match self {
             Opened::New(files) => files.begin(options, leader),
             Opened::Written(bytes, mut files) => {
-                let mut running = Loop::start(options, leader, &bytes, verify)?;
+                let mut running = Validator::start(options, leader, &bytes, verify)?;
                 running.has_files = true;
                 files.life = Some(running.life);
                 Ok((running, files))
@@ -97,16 +97,16 @@ impl NewFiles {
     ///
     /// # Errors
     ///
-    /// As of [`Loop::begin`]. The files are closed then, and have nothing still.
+    /// As of [`Validator::begin`]. The files are closed then, and have nothing still.
     pub fn begin<G>(
         self,
         options: &Options,
         leader: impl Fn(View) -> Participant + 'static,
-    ) -> Result<(Loop<G>, Files), StartError>
+    ) -> Result<(Validator<G>, Files), StartError>
     where
         G: Clone + AsRef<[u8]> + for<'b> TryFrom<&'b [u8]>,
     {
-        let mut running = Loop::begin(options, leader)?;
+        let mut running = Validator::begin(options, leader)?;
         running.has_files = true;
         let (pair, life) = (Some(self.pair), Some(running.life));
         let writes = 0;
@@ -197,7 +197,7 @@ impl Files {
     }
 
     /// Writes what a validator gave to be written. It lasts once that is done: say so by
-    /// [`Loop::wrote`], which refuses what these files don't have.
+    /// [`Validator::wrote`], which refuses what these files don't have.
     ///
     /// # Errors
     ///

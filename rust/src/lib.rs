@@ -9,9 +9,9 @@
 //! A [`Scheme`] says what signatures are worth, and a [`Round`] is one view: votes go in by
 //! [`Round::add_network`] and [`Round::accept_vote`], certificates come out of
 //! [`Round::try_construct`]. Who verifies elsewhere, as on other threads, takes [`Round::step`] in
-//! its place. A [`Loop`] is a validator: it votes by the rules over many views, and says what is to be
-//! done next; [`looping`] says how it is used, and [`Files`] keeps what it writes. A [`Driver`] is one
-//! that also writes, signs and verifies: [`driver`] says how, and an application begins there. They
+//! its place. A [`Validator`] votes by the rules over many views, and says what is to be done next:
+//! [`validator`] says how it is used, and [`Files`] keeps what it writes. A [`Driver`] is one that
+//! also writes, signs and verifies: [`driver`] says how, and an application begins there. They
 //! stay on their thread; [`thread`] has a handle that doesn't. Of two votes that are reported,
 //! [`convicted`] says whether they show others too that their signer broke the rules. The examples
 //! `view` and `mailbox` of this crate are whole programs, and `rust/store` and `rust/validator` are
@@ -72,7 +72,6 @@ mod evidence;
 mod ffi;
 mod files;
 mod flat;
-pub mod looping;
 pub mod messages;
 pub mod positions;
 pub mod round;
@@ -84,6 +83,7 @@ mod scheme;
 #[path = "../tests/toy/mod.rs"]
 pub mod test;
 pub mod thread;
+pub mod validator;
 
 #[cfg(feature = "test")]
 extern crate self as batcher;
@@ -93,7 +93,6 @@ pub use driver::Driver;
 pub use errors::Error;
 pub use evidence::convicted;
 pub use files::{Files, NewFiles, Opened};
-pub use looping::Loop;
 pub use messages::{
     Activity, Attestation, Certificate, Finalization, Finalize, Kind, Notarization, Notarize,
     Nullification, Nullify, Proposal, Sha256Digest, Subject, Vote,
@@ -101,6 +100,7 @@ pub use messages::{
 pub use positions::{Epoch, Participant, Set, SetFault, View, quorum};
 pub use round::{Round, Step, Wanted, WantedTogether};
 pub use scheme::Scheme;
+pub use validator::Validator;
 
 /// What a round answers isn't dropped without a warning. The first programs are refused for that
 /// alone: the last makes the same calls, says that it drops their answers, and compiles.

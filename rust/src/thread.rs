@@ -1,7 +1,7 @@
 //! Rounds and validators on a thread of their own, for callers on many threads and for tasks.
 //!
-//! A [`Round`](crate::Round) or a [`Loop`](crate::Loop) stays on the thread on which it was made,
-//! since the library counts references without atomics. A [`Host`] is a thread that holds any
+//! A [`Round`](crate::Round) or a [`Validator`](crate::Validator) stays on the thread on which it
+//! was made, since the library counts references without atomics. A [`Host`] is a thread that holds any
 //! number of them, and a [`Mailbox`] a handle to one that may be cloned and sent anywhere. Each job
 //! is run on it alone, in the order in which jobs were handed in. Its answer can be waited for by
 //! blocking or as a future, on any executor.

@@ -4,8 +4,8 @@
 mod shared;
 mod toy;
 
-use batcher::looping::{Listed, Loop, Options, Receipt, Task, Verdict};
 use batcher::positions::Round;
+use batcher::validator::{Listed, Options, Receipt, Task, Validator, Verdict};
 use batcher::{Certificate, Epoch, Participant, Sha256Digest, Subject, View};
 use shared::{put, verdicts};
 use toy::{Signature, sign};
@@ -37,7 +37,7 @@ fn nullification(view: u64) -> Listed {
 
 /// The first of four validators, which leads all views.
 struct First {
-    running: Loop<Signature>,
+    running: Validator<Signature>,
     disk: Vec<u8>,
     view: u64,
     /// Each view in which it was to propose, with the view of the parent.
@@ -48,7 +48,7 @@ impl First {
     fn new() -> Self {
         let leader = |_: View| Participant::new(0);
         let mut first = First {
-            running: Loop::begin(&options(), leader).unwrap(),
+            running: Validator::begin(&options(), leader).unwrap(),
             disk: Vec::new(),
             view: 0,
             proposed: Vec::new(),

@@ -8,8 +8,8 @@ use batcher::driver::{
     Action, Cause, Check, DriveError, Driver, Heard, Judge, Message, OpenError, Propose, Reply,
     Signer, Store, Unsigned, Verifier,
 };
-use batcher::looping::{Options, StartError, Write};
 use batcher::positions::Round;
+use batcher::validator::{Options, StartError, Write};
 use batcher::{
     BlockReason, Certificate, Epoch, Files, Kind, Opened, Participant, Proposal, Sha256Digest,
     Subject, View, convicted,

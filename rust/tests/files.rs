@@ -5,7 +5,7 @@ mod refusing;
 mod shared;
 mod toy;
 
-use batcher::looping::{Loop, Options, StartError, Task, Write, WroteError};
+use batcher::validator::{Options, StartError, Task, Validator, Write, WroteError};
 use batcher::{Epoch, Files, Opened, Participant, Sha256Digest, View};
 use refusing::{each_refused_in_turn, once};
 use shared::{Folder, verdicts};
@@ -69,7 +69,7 @@ fn leader(_: View) -> Participant {
 
 /// A validator that is alone. Its own vote is a quorum, so that it writes as long as it is polled.
 struct Alone {
-    running: Loop<Signature>,
+    running: Validator<Signature>,
     disk: Files,
     /// What its files are to have.
     written: Vec<u8>,
@@ -78,7 +78,7 @@ struct Alone {
 }
 
 impl Alone {
-    fn of((running, disk): (Loop<Signature>, Files), written: &[u8]) -> Self {
+    fn of((running, disk): (Validator<Signature>, Files), written: &[u8]) -> Self {
         let written = written.to_vec();
         Alone {
             running,
@@ -103,7 +103,7 @@ impl Alone {
     fn start_again(folder: &Path) -> Self {
         match Files::open(folder).unwrap() {
             Opened::Written(bytes, files) => {
-                let running = Loop::start(&options(), leader, &bytes, verdicts).unwrap();
+                let running = Validator::start(&options(), leader, &bytes, verdicts).unwrap();
                 Alone::of((running, files), &bytes)
             }
             Opened::New(new) => Alone::of(new.begin(&options(), leader).unwrap(), &[]),
@@ -322,9 +322,9 @@ fn they_are_begun_once() {
 #[test]
 fn they_are_of_one_validator() {
     let folder = Folder::new("else");
-    let begun = || Loop::begin(&options(), leader).unwrap();
-    let started = |bytes: &[u8]| Loop::start(&options(), leader, bytes, verdicts).unwrap();
-    let refuses = |alone: &mut Alone, running: Loop<Signature>| {
+    let begun = || Validator::begin(&options(), leader).unwrap();
+    let started = |bytes: &[u8]| Validator::start(&options(), leader, bytes, verdicts).unwrap();
+    let refuses = |alone: &mut Alone, running: Validator<Signature>| {
         let (before, own) = (
             folder.both(),
             std::mem::replace(&mut alone.running, running),
@@ -376,7 +376,7 @@ fn each_is_written_once_and_in_order() {
         panic!("it is written");
     };
     // This one doesn't know that it has files, so it takes for written what its caller says.
-    let running = Loop::start(&options(), leader, &bytes, verdicts).unwrap();
+    let running = Validator::start(&options(), leader, &bytes, verdicts).unwrap();
     let mut alone = Alone::of((running, files), &bytes);
     alone.write().unwrap();
     let passed_over = alone.next();

@@ -5,8 +5,8 @@ mod refusing;
 mod shared;
 mod toy;
 
-use batcher::looping::{Listed, Loop, Task};
 use batcher::positions::Round;
+use batcher::validator::{Listed, Task, Validator};
 use batcher::{Certificate, Epoch, Participant, Proposal, Sha256Digest, Subject, View};
 use refusing::{again, each_refused_in_turn, uncounted};
 use shared::{options, put, verdicts};
@@ -22,7 +22,7 @@ fn proposal() -> Proposal {
     }
 }
 
-/// A certificate of the subject, listed as a loop makes it.
+/// A certificate of the subject, listed as a validator makes it.
 fn listed(subject: Subject, signers: [u32; 3]) -> Listed {
     let mut bytes = 3_u64.to_be_bytes().to_vec();
     for signer in signers {
@@ -37,7 +37,7 @@ fn listed(subject: Subject, signers: [u32; 3]) -> Listed {
 
 /// Does all that is to be done, with each request for memory of it granted, and gives what is for
 /// others.
-fn go_on(running: &mut Loop<Signature>, disk: &mut Vec<u8>, me: u32) -> Vec<Task<Signature>> {
+fn go_on(running: &mut Validator<Signature>, disk: &mut Vec<u8>, me: u32) -> Vec<Task<Signature>> {
     let mut given = Vec::new();
     while let Some(task) = running.poll().unwrap() {
         match task {
@@ -71,8 +71,8 @@ fn is_finalize(subject: &Subject) -> bool {
 }
 
 /// The power goes, and it is started again by its disk.
-fn starts_again(disk: &mut Vec<u8>) -> Loop<Signature> {
-    let mut next = Loop::start(&options(0), |_: View| LEADER, disk, verdicts).unwrap();
+fn starts_again(disk: &mut Vec<u8>) -> Validator<Signature> {
+    let mut next = Validator::start(&options(0), |_: View| LEADER, disk, verdicts).unwrap();
     let _ = go_on(&mut next, disk, 0);
     next
 }
@@ -80,7 +80,7 @@ fn starts_again(disk: &mut Vec<u8>) -> Loop<Signature> {
 /// One hears a notarization, finalizes, and is started again by its disk.
 fn of_a_peer(granted: &mut Option<u32>) -> Vec<String> {
     let mut disk = Vec::new();
-    let mut running = Loop::begin(&options(0), |_: View| LEADER).unwrap();
+    let mut running = Validator::begin(&options(0), |_: View| LEADER).unwrap();
     let _ = go_on(&mut running, &mut disk, 0);
     let subject = Subject::Notarize {
         proposal: proposal(),
@@ -106,7 +106,7 @@ fn what_a_vote_rests_on_is_on_the_disk() {
 /// The same of one from beyond the window.
 fn from_ahead(granted: &mut Option<u32>) -> Vec<String> {
     let mut disk = Vec::new();
-    let mut running = Loop::begin(&options(0), |_: View| LEADER).unwrap();
+    let mut running = Validator::begin(&options(0), |_: View| LEADER).unwrap();
     let _ = go_on(&mut running, &mut disk, 0);
     let round = Round::new(Epoch::zero(), View::new(40));
     let certificate = listed(Subject::Nullify { round }, [1, 2, 3]);
@@ -137,7 +137,7 @@ fn what_is_from_ahead_is_on_the_disk() {
 /// One makes a notarization of votes, finalizes, and is started again by its disk.
 fn of_its_own(granted: &mut Option<u32>) -> Vec<String> {
     let mut disk = Vec::new();
-    let mut running = Loop::begin(&options(0), |_: View| LEADER).unwrap();
+    let mut running = Validator::begin(&options(0), |_: View| LEADER).unwrap();
     let _ = go_on(&mut running, &mut disk, 0);
     let subject = Subject::Notarize {
         proposal: proposal(),

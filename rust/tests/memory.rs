@@ -4,8 +4,8 @@
 mod refusing;
 
 use batcher::errors::RoundError;
-use batcher::looping::{self, KeptError, Loop, Options, PollError, StartError, Task};
 use batcher::positions::Round as Number;
+use batcher::validator::{self, KeptError, Options, PollError, StartError, Task, Validator};
 use batcher::{
     Certificate, Epoch, Kind, Mode, Participant, Proposal, Round, Sha256Digest, Step, Subject,
     View, Wanted,
@@ -246,17 +246,17 @@ fn the_first_verdict_on_a_whole_counts() {
 }
 
 /// A validator of four, with what it gave to be done and what it answered, as text.
-struct Validator {
-    running: Loop<Signature>,
+struct One {
+    running: Validator<Signature>,
     answers: Vec<String>,
 }
 
-fn verdicts(wanted: &looping::Wanted<Signature>) -> Vec<bool> {
+fn verdicts(wanted: &validator::Wanted<Signature>) -> Vec<bool> {
     let all = wanted.attestations().iter();
     all.map(|it| it.signature == [1]).collect()
 }
 
-impl Validator {
+impl One {
     fn begin(granted: &mut Option<u32>) -> Self {
         let options = Options {
             epoch: Epoch::zero(),
@@ -270,12 +270,12 @@ impl Validator {
         // It holds something, so that memory is taken for it.
         let count = u64::from(options.participants);
         let leader = move |view: View| Participant::new((view.get() % count) as u32);
-        let begin = || Loop::<Signature>::begin(&options, leader);
+        let begin = || Validator::<Signature>::begin(&options, leader);
         let running = match once(granted, begin) {
             Err(StartError::OutOfMemory) => begin(),
             made => made,
         };
-        Validator {
+        One {
             running: running.unwrap(),
             answers: Vec::new(),
         }
@@ -327,7 +327,7 @@ impl Validator {
 #[test]
 fn a_validator_goes_on_where_memory_is_refused() {
     each_refused_in_turn("a validator", |granted| {
-        let mut it = Validator::begin(granted);
+        let mut it = One::begin(granted);
         it.go_on(granted);
         for signer in 1..4 {
             let nullify = vote(Subject::Nullify { round: NUMBER }, signer, true);

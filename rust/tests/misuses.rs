@@ -7,17 +7,20 @@ mod shared;
 mod toy;
 
 use batcher::errors::SignError;
-use batcher::looping::{
-    Listed, Loop, Options, Receipt, Signed, StartError, Task, Wanted, Write, WroteError,
-};
 use batcher::positions::Round;
+use batcher::validator::{
+    Listed, Options, PollError, Receipt, Signed, StartError, Task, Validator, Wanted, Write,
+    WroteError,
+};
 use batcher::{
     Epoch, Files, Kind, Opened, Participant, Proposal, Sha256Digest, Subject, View, Vote,
 };
 use shared::{Folder, options, put, verdicts};
+use std::cell::Cell;
 use std::collections::{BTreeMap, VecDeque};
 use std::io::ErrorKind;
 use std::panic::{AssertUnwindSafe, catch_unwind};
+use std::rc::Rc;
 use toy::{Signature, sign, vote};
 
 fn leader(view: View) -> Participant {
@@ -31,9 +34,9 @@ enum Message {
 }
 
 /// A validator, its disk, and what it said in all of its lives.
-struct Validator {
+struct Member {
     me: u32,
-    running: Loop<Signature>,
+    running: Validator<Signature>,
     disk: Vec<u8>,
     view: View,
     /// What it proposes in this life.
@@ -44,11 +47,11 @@ struct Validator {
     messages: Vec<Message>,
 }
 
-impl Validator {
+impl Member {
     fn new(me: u32) -> Self {
-        Validator {
+        Member {
             me,
-            running: Loop::begin(&options(me), leader).unwrap(),
+            running: Validator::begin(&options(me), leader).unwrap(),
             disk: Vec::new(),
             view: View::zero(),
             payload: 1,
@@ -61,8 +64,8 @@ impl Validator {
 
     /// The power goes, and it is started again by its disk. It has another payload by then.
     fn start_again(&mut self) {
-        self.running = match Loop::start(&options(self.me), leader, &self.disk, verdicts) {
-            Err(StartError::NotBegun) => Loop::begin(&options(self.me), leader).unwrap(),
+        self.running = match Validator::start(&options(self.me), leader, &self.disk, verdicts) {
+            Err(StartError::NotBegun) => Validator::begin(&options(self.me), leader).unwrap(),
             started => started.unwrap(),
         };
         self.payload += 1;
@@ -135,7 +138,7 @@ fn votes_on(me: u32, disk: &[u8]) -> Vec<Subject> {
         }
         verdicts(wanted)
     };
-    Loop::start(&options(me), leader, disk, verify).unwrap();
+    Validator::start(&options(me), leader, disk, verify).unwrap();
     found
 }
 
@@ -148,15 +151,15 @@ fn contradict(one: &Subject, other: &Subject) -> bool {
 }
 
 /// What a caller does with a task. It gives back what is to be done as usual.
-type Caller<'a> = &'a mut dyn FnMut(&mut Validator, Task<Signature>) -> Option<Task<Signature>>;
+type Caller<'a> = &'a mut dyn FnMut(&mut Member, Task<Signature>) -> Option<Task<Signature>>;
 
-fn usual(_: &mut Validator, task: Task<Signature>) -> Option<Task<Signature>> {
+fn usual(_: &mut Member, task: Task<Signature>) -> Option<Task<Signature>> {
     Some(task)
 }
 
 /// Four validators. The first one has another caller than the others.
 struct Four {
-    all: Vec<Validator>,
+    all: Vec<Member>,
     /// For how many turns nobody has sent anything.
     silent: u32,
     /// How many such turns make a time that is over.
@@ -166,7 +169,7 @@ struct Four {
 impl Four {
     fn new() -> Self {
         Four {
-            all: (0..4).map(Validator::new).collect(),
+            all: (0..4).map(Member::new).collect(),
             silent: 0,
             patience: 1,
         }
@@ -208,12 +211,12 @@ impl Four {
         }
     }
 
-    fn first(&mut self) -> &mut Validator {
+    fn first(&mut self) -> &mut Member {
         &mut self.all[0]
     }
 
     /// How many views are final at the one that has fewest, of these.
-    fn fewest(all: &[Validator]) -> usize {
+    fn fewest(all: &[Member]) -> usize {
         all.iter().map(|it| it.finals.len()).min().unwrap()
     }
 
@@ -363,7 +366,7 @@ fn writes_behind_what_is_replaced() {
         });
     }
     assert!(is_replaced);
-    let started = Loop::start(&options(0), leader, &four.first().disk, verdicts);
+    let started = Validator::start(&options(0), leader, &four.first().disk, verdicts);
     assert_eq!(started.err(), Some(StartError::Damaged));
 }
 
@@ -373,12 +376,12 @@ fn begins_where_something_is_written() {
     let mut four = Four::new();
     four.run(40, &mut usual);
     let mut disk = four.first().disk.clone();
-    let mut begun = Loop::<Signature>::begin(&options(0), leader).unwrap();
+    let mut begun = Validator::<Signature>::begin(&options(0), leader).unwrap();
     let Some(Task::Write(write)) = begun.poll().unwrap() else {
         panic!("it is to write first");
     };
     put(&mut disk, &write);
-    let started = Loop::start(&options(0), leader, &disk, verdicts);
+    let started = Validator::start(&options(0), leader, &disk, verdicts);
     assert_eq!(started.err(), Some(StartError::Damaged));
     // By the crate's files it doesn't come to that.
     let folder = Folder::new("begins");
@@ -395,7 +398,7 @@ fn begins_where_something_is_written() {
 }
 
 /// A validator that is alone gives this to be written next.
-fn next_write(running: &mut Loop<Signature>) -> Write {
+fn next_write(running: &mut Validator<Signature>) -> Write {
     loop {
         match running.poll().unwrap().expect("it is alone, and goes on") {
             Task::Write(write) => return write,
@@ -683,7 +686,7 @@ fn gives_verdicts_of_another_validator() {
         Some(task)
     });
     let wanted = wanted.expect("the others voted");
-    let mut other = Validator::new(0);
+    let mut other = Member::new(0);
     let verdicts = vec![true; wanted.attestations().len()];
     assert_eq!(other.running.conclude(&wanted, &verdicts), Ok(false));
     let (kind, round) = (wanted.subject().kind(), wanted.subject().round());
@@ -694,7 +697,7 @@ fn gives_verdicts_of_another_validator() {
 #[test]
 fn gives_too_few_verdicts() {
     play(&mut |it, task| {
-        let mut panics = |call: &mut dyn FnMut(&mut Loop<Signature>)| {
+        let mut panics = |call: &mut dyn FnMut(&mut Validator<Signature>)| {
             let ended = catch_unwind(AssertUnwindSafe(|| call(&mut it.running)));
             assert!(ended.is_err());
         };
@@ -744,19 +747,65 @@ fn takes_one_sender_for_another() {
 
 #[test]
 fn takes_the_wrong_leader() {
-    let leaders: [fn(View) -> Participant; 2] = [
-        |view| Participant::new(((view.get() + 1) % 4) as u32),
-        |_| Participant::new(17),
+    let wrong = |view: View| Participant::new(((view.get() + 1) % 4) as u32);
+    let mut four = Four::new();
+    four.first().running = Validator::begin(&options(0), wrong).unwrap();
+    four.play(&mut usual);
+    // Over a start too.
+    let disk = four.first().disk.clone();
+    four.first().running = Validator::start(&options(0), wrong, &disk, verdicts).unwrap();
+    four.play(&mut usual);
+}
+
+#[test]
+fn names_a_leader_who_takes_no_part() {
+    let stranger = Participant::new(17);
+    let named = Rc::new(Cell::new(stranger));
+    let leader = named.clone();
+    let mut running = Validator::<Signature>::begin(&options(0), move |_| leader.get()).unwrap();
+    let Ok(Some(Task::Write(write))) = running.poll() else {
+        panic!("the journal is written first");
+    };
+    running.wrote(write).unwrap();
+    // It says so until another is named.
+    let said = Some(PollError::NoLeader(View::new(1), stranger));
+    assert_eq!(running.poll().err(), said);
+    assert_eq!(running.poll().err(), said);
+    assert_eq!(running.view(), View::zero());
+    named.set(Participant::new(1));
+    assert!(matches!(running.poll(), Ok(Some(Task::Enter { .. }))));
+    assert_eq!(running.view(), View::new(1));
+}
+
+#[test]
+fn has_no_bounds() {
+    let too_many = [
+        Options {
+            participants: 65_536,
+            ..options(0)
+        },
+        Options {
+            ahead: 1_025,
+            ..options(0)
+        },
+        Options {
+            ahead: u64::MAX,
+            ..options(0)
+        },
     ];
-    for wrong in leaders {
-        let mut four = Four::new();
-        four.first().running = Loop::begin(&options(0), wrong).unwrap();
-        four.play(&mut usual);
-        // Over a start too.
-        let disk = four.first().disk.clone();
-        four.first().running = Loop::start(&options(0), wrong, &disk, verdicts).unwrap();
-        four.play(&mut usual);
+    for options in &too_many {
+        let refused = Validator::<Signature>::begin(options, leader).err();
+        assert_eq!(refused, Some(StartError::TooMany));
+        // The disk isn't read.
+        let refused = Validator::<Signature>::start(options, leader, &[0], verdicts).err();
+        assert_eq!(refused, Some(StartError::TooMany));
     }
+    let most = Options {
+        participants: 65_535,
+        ahead: 1_024,
+        ..options(0)
+    };
+    assert!(Validator::<Signature>::begin(&most, leader).is_ok());
 }
 
 #[test]

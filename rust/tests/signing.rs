@@ -5,8 +5,8 @@ mod shared;
 mod toy;
 
 use batcher::errors::SignError;
-use batcher::looping::{Listed, Loop, Receipt, Signed, StartError, Task, Verdict, Wanted};
 use batcher::positions::Round;
+use batcher::validator::{Listed, Receipt, Signed, StartError, Task, Validator, Verdict, Wanted};
 use batcher::{Epoch, Kind, Participant, Proposal, Sha256Digest, Subject, View, Vote};
 use shared::{options, put, verdicts};
 use toy::{Signature, attests, sign, vote};
@@ -39,14 +39,14 @@ fn spoilt(subject: &Subject, signer: u32) -> Signature {
 
 /// A validator, and what is on its disk.
 struct Station {
-    running: Loop<Signature>,
+    running: Validator<Signature>,
     disk: Vec<u8>,
 }
 
 impl Station {
     fn new(me: u32) -> Self {
         Station {
-            running: Loop::begin(&options(me), leader).unwrap(),
+            running: Validator::begin(&options(me), leader).unwrap(),
             disk: Vec::new(),
         }
     }
@@ -189,7 +189,7 @@ fn what_is_signed_is_of_the_namespace() {
 
 #[test]
 fn says_how_far_a_view_is_and_changes_nothing() {
-    let begun = Loop::<Signature>::begin(&options(0), leader).unwrap();
+    let begun = Validator::<Signature>::begin(&options(0), leader).unwrap();
     assert_eq!(
         (begun.view(), begun.last_final()),
         (View::zero(), View::zero())
@@ -272,7 +272,7 @@ fn a_disk_is_verified() {
     let disk = written();
     let [notarize, finalize] = subjects();
     let mut asked = Vec::new();
-    let mut started = Loop::start(&options(0), leader, &disk, |wanted| {
+    let mut started = Validator::start(&options(0), leader, &disk, |wanted| {
         asked.push((*wanted.subject(), wanted.attestations().len()));
         verdicts(wanted)
     })
@@ -301,7 +301,7 @@ fn a_bad_signature_of_a_disk_is_an_error() {
             }
             verdicts
         };
-        let started = Loop::start(&options(0), leader, &disk, refuses);
+        let started = Validator::start(&options(0), leader, &disk, refuses);
         assert_eq!(started.err(), Some(StartError::NotVerified));
     }
     // Wherever a bit is turned, nothing is sent that doesn't attest.
@@ -309,7 +309,7 @@ fn a_bad_signature_of_a_disk_is_an_error() {
     for place in 0..disk.len() {
         let mut spoilt = disk.clone();
         spoilt[place] ^= 1;
-        let mut started = match Loop::start(&options(0), leader, &spoilt, verdicts) {
+        let mut started = match Validator::start(&options(0), leader, &spoilt, verdicts) {
             Ok(started) => started,
             Err(error) => {
                 refused += usize::from(error == StartError::NotVerified);
@@ -351,8 +351,8 @@ impl TryFrom<&[u8]> for Long {
 
 #[test]
 fn one_with_too_many_bytes_is_a_bad_one() {
-    let mut running = Loop::<Long>::begin(&options(0), leader).unwrap();
-    let asked = |running: &mut Loop<Long>| {
+    let mut running = Validator::<Long>::begin(&options(0), leader).unwrap();
+    let asked = |running: &mut Validator<Long>| {
         let mut count = 0;
         while let Some(task) = running.poll().unwrap() {
             match task {

@@ -4,8 +4,8 @@
 mod shared;
 mod toy;
 
-use batcher::looping::{Listed, Loop, Options, Receipt, Task, Verdict};
 use batcher::positions::Round;
+use batcher::validator::{Listed, Options, Receipt, Task, Validator, Verdict};
 use batcher::{Epoch, Kind, Participant, Sha256Digest, View, Vote};
 use shared::{put, verdicts};
 use toy::{Signature, sign};
@@ -35,7 +35,7 @@ fn leader(view: View) -> Participant {
 
 struct Station {
     me: u32,
-    running: Loop<Signature>,
+    running: Validator<Signature>,
     disk: Vec<u8>,
     view: View,
     finals: usize,
@@ -46,7 +46,7 @@ impl Station {
     fn new(me: u32) -> Self {
         Station {
             me,
-            running: Loop::begin(&options(me), leader).unwrap(),
+            running: Validator::begin(&options(me), leader).unwrap(),
             disk: Vec::new(),
             view: View::zero(),
             finals: 0,
@@ -55,7 +55,7 @@ impl Station {
     }
 
     fn restart(&mut self) {
-        self.running = Loop::start(&options(self.me), leader, &self.disk, verdicts).unwrap();
+        self.running = Validator::start(&options(self.me), leader, &self.disk, verdicts).unwrap();
     }
 
     fn hear(&mut self, sender: u32, message: &Message) {

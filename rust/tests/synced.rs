@@ -4,7 +4,7 @@
 mod shared;
 mod toy;
 
-use batcher::looping::{Loop, Options, Task, Write};
+use batcher::validator::{Options, Task, Validator, Write};
 use batcher::{Epoch, Files, Opened, Participant, Sha256Digest};
 use shared::{Folder, put, verdicts};
 use std::cell::RefCell;
@@ -116,7 +116,7 @@ fn found(both: &Both) -> Option<Vec<u8>> {
 }
 
 /// A validator that is alone gives this to be written next.
-fn next_write(running: &mut Loop<Signature>) -> Write {
+fn next_write(running: &mut Validator<Signature>) -> Write {
     loop {
         match running.poll().unwrap().expect("it is alone, and goes on") {
             Task::Write(write) => return write,
@@ -135,7 +135,7 @@ fn next_write(running: &mut Loop<Signature>) -> Write {
     }
 }
 
-fn begun(folder: &Folder) -> (Loop<Signature>, Files) {
+fn begun(folder: &Folder) -> (Validator<Signature>, Files) {
     let options = Options {
         epoch: Epoch::zero(),
         me: Participant::new(0),

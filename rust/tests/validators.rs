@@ -4,8 +4,10 @@
 mod shared;
 mod toy;
 
-use batcher::looping::{Cause, Listed, Loop, Options, Receipt, StartError, Task, Verdict, Wanted};
 use batcher::positions::Round;
+use batcher::validator::{
+    Cause, Listed, Options, Receipt, StartError, Task, Validator, Verdict, Wanted,
+};
 use batcher::{
     Attestation, Certificate, Epoch, Kind, Participant, Proposal, Sha256Digest, Subject, View, Vote,
 };
@@ -40,7 +42,7 @@ enum Message {
 /// What a validator has written, and what it said in all of its lives.
 struct Station {
     me: u32,
-    running: Loop<Signature>,
+    running: Validator<Signature>,
     disk: Vec<u8>,
     view: View,
     finals: BTreeMap<View, Proposal>,
@@ -54,7 +56,7 @@ impl Station {
     fn new(me: u32) -> Self {
         Station {
             me,
-            running: Loop::begin(&options(me), leader).unwrap(),
+            running: Validator::begin(&options(me), leader).unwrap(),
             disk: Vec::new(),
             view: View::zero(),
             finals: BTreeMap::new(),
@@ -65,10 +67,10 @@ impl Station {
     }
 
     fn restart(&mut self) {
-        self.running = match Loop::start(&options(self.me), leader, &self.disk, verdicts) {
+        self.running = match Validator::start(&options(self.me), leader, &self.disk, verdicts) {
             Ok(running) => running,
             // It was stopped before anything was written.
-            Err(StartError::NotBegun) => Loop::begin(&options(self.me), leader).unwrap(),
+            Err(StartError::NotBegun) => Validator::begin(&options(self.me), leader).unwrap(),
             Err(error) => panic!("{error}"),
         };
     }
@@ -295,7 +297,7 @@ fn one_bad(wanted: &Wanted<Signature>) -> Vec<bool> {
     vec![true, true, false]
 }
 
-fn blocks(running: &mut Loop<Signature>) -> Vec<(Participant, Cause)> {
+fn blocks(running: &mut Validator<Signature>) -> Vec<(Participant, Cause)> {
     let all = tasks(running).into_iter().filter_map(|task| match task {
         Task::Block(peer, cause) => Some((peer, cause)),
         _ => None,
@@ -421,12 +423,12 @@ fn verdicts_may_come_late() {
 }
 
 /// A validator of seven that has entered its first view. A quorum is 5.
-fn of_seven() -> Loop<Signature> {
+fn of_seven() -> Validator<Signature> {
     let options = Options {
         participants: 7,
         ..options(0)
     };
-    let mut running = Loop::<Signature>::begin(&options, leader).unwrap();
+    let mut running = Validator::<Signature>::begin(&options, leader).unwrap();
     let Some(Task::Write(write)) = running.poll().unwrap() else {
         panic!("its journal is written first");
     };
@@ -440,14 +442,14 @@ fn nullify_of(view: u64) -> Subject {
     Subject::Nullify { round }
 }
 
-fn hear_vote(running: &mut Loop<Signature>, subject: Subject, signer: u32) {
+fn hear_vote(running: &mut Validator<Signature>, subject: Subject, signer: u32) {
     let signer = Participant::new(signer);
     let attestation = Attestation::new(signer, sign(&subject, signer.get()));
     let vote = Vote::new(subject, attestation);
     running.vote(signer, &vote).unwrap();
 }
 
-fn asked(running: &mut Loop<Signature>) -> Wanted<Signature> {
+fn asked(running: &mut Validator<Signature>) -> Wanted<Signature> {
     match running.poll().unwrap() {
         Some(Task::Verify(wanted)) => wanted,
         other => panic!("{other:?}"),
@@ -518,7 +520,7 @@ fn first_proposal() -> Proposal {
 }
 
 /// All that is to be done by now. What is to be written is.
-fn tasks(running: &mut Loop<Signature>) -> Vec<Task<Signature>> {
+fn tasks(running: &mut Validator<Signature>) -> Vec<Task<Signature>> {
     let mut tasks = Vec::new();
     while let Some(task) = running.poll().unwrap() {
         match task {
@@ -649,7 +651,7 @@ fn a_view_says_why_it_hangs() {
 fn a_disk_is_of_one_validator() {
     let station = begun(1);
     let started =
-        |options: &Options, disk: &[u8]| Loop::start(options, leader, disk, verdicts).err();
+        |options: &Options, disk: &[u8]| Validator::start(options, leader, disk, verdicts).err();
     assert_eq!(started(&options(1), &station.disk), None);
     assert_eq!(
         started(&options(2), &station.disk),
@@ -687,7 +689,7 @@ fn subjects_have_messages_of_their_own() {
         namespace: b"test",
         ..options(1)
     };
-    let other = Loop::<Signature>::begin(&options, leader).unwrap();
+    let other = Validator::<Signature>::begin(&options, leader).unwrap();
     let round = Round::new(Epoch::zero(), View::new(1));
     let proposal = Proposal::new(round, View::zero(), Sha256Digest([7; 32]));
     let subjects = [

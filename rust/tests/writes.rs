@@ -4,8 +4,8 @@
 mod shared;
 mod toy;
 
-use batcher::looping::{KeptError, Loop, Task, Wanted, Write, WroteError};
 use batcher::positions::Round;
+use batcher::validator::{KeptError, Task, Validator, Wanted, Write, WroteError};
 use batcher::{Epoch, Kind, Participant, Proposal, Sha256Digest, Subject, View};
 use shared::{options, put, verdicts};
 use toy::{Signature, sign, vote};
@@ -17,8 +17,8 @@ fn leader(_: View) -> Participant {
 }
 
 /// A validator of four, and a disk to which somebody else writes.
-struct Validator {
-    running: Loop<Signature>,
+struct One {
+    running: Validator<Signature>,
     disk: Vec<u8>,
     /// What was given to be signed, and to be verified.
     to_sign: Vec<Subject>,
@@ -28,9 +28,9 @@ struct Validator {
     finals: Vec<Proposal>,
 }
 
-impl Validator {
-    fn of(running: Loop<Signature>, disk: Vec<u8>) -> Self {
-        Validator {
+impl One {
+    fn of(running: Validator<Signature>, disk: Vec<u8>) -> Self {
+        One {
             running,
             disk,
             to_sign: Vec::new(),
@@ -42,15 +42,15 @@ impl Validator {
 
     /// One that has begun, and is in its first view.
     fn begin() -> Self {
-        let mut it = Validator::of(Loop::begin(&options(0), leader).unwrap(), Vec::new());
+        let mut it = One::of(Validator::begin(&options(0), leader).unwrap(), Vec::new());
         it.go_on();
         it
     }
 
     /// The power goes, and it starts again by what is on the disk.
     fn start_again(self) -> Self {
-        let running = Loop::start(&options(0), leader, &self.disk, verdicts).unwrap();
-        let mut it = Validator::of(running, self.disk);
+        let running = Validator::start(&options(0), leader, &self.disk, verdicts).unwrap();
+        let mut it = One::of(running, self.disk);
         it.go_on();
         it
     }
@@ -104,8 +104,8 @@ impl Validator {
 
 /// It is to nullify its first view, and to write that another view is final. The signature comes
 /// while that is being written.
-fn signs_in_a_write() -> (Validator, Write) {
-    let mut it = Validator::begin();
+fn signs_in_a_write() -> (One, Write) {
+    let mut it = One::begin();
     it.running.expire(View::new(1));
     it.go_on();
     assert_eq!(it.to_sign, [Subject::Nullify { round: FIRST }]);
@@ -133,8 +133,8 @@ fn what_is_sent_is_on_the_disk() {
     let next = it.next_write().expect("it isn't written");
     assert!(it.sent.is_empty());
     // .. and until it is written, a crash leaves a validator that didn't sign it.
-    let running = Loop::start(&options(0), leader, &it.disk, verdicts).unwrap();
-    let mut without = Validator::of(running, it.disk.clone());
+    let running = Validator::start(&options(0), leader, &it.disk, verdicts).unwrap();
+    let mut without = One::of(running, it.disk.clone());
     without.go_on();
     assert!(without.sent.is_empty());
     it.put(&next);
@@ -148,7 +148,7 @@ fn what_is_sent_is_on_the_disk() {
 /// So a crash leaves a validator that gives it again.
 #[test]
 fn what_is_final_is_on_the_disk() {
-    let mut it = Validator::begin();
+    let mut it = One::begin();
     let proposal = Proposal::new(FIRST, View::zero(), Sha256Digest([7; 32]));
     it.hear(Subject::Notarize { proposal });
     it.hear(Subject::Finalize { proposal });
@@ -171,7 +171,7 @@ fn what_is_final_is_on_the_disk() {
 
 #[test]
 fn what_is_kept_is_shown_once_all_is_written() {
-    let mut it = Validator::begin();
+    let mut it = One::begin();
     let subject = Subject::Nullify { round: FIRST };
     it.hear(subject);
     it.running.expire(View::new(1));
@@ -180,7 +180,7 @@ fn what_is_kept_is_shown_once_all_is_written() {
     it.sign();
     it.verify();
     assert!(it.running.has_certificate(Kind::Nullification, FIRST));
-    let kept = |it: &Validator| it.running.kept(Kind::Nullification, FIRST);
+    let kept = |it: &One| it.running.kept(Kind::Nullification, FIRST);
     assert_eq!(kept(&it), Err(KeptError::NotWritten));
     let write = it.next_write().expect("a vote isn't written");
     assert_eq!(kept(&it), Err(KeptError::NotWritten));
@@ -195,7 +195,7 @@ fn what_is_kept_is_shown_once_all_is_written() {
 /// Where a proposal is certified is no vote of its own.
 #[test]
 fn what_is_certified_is_known_at_once() {
-    let mut it = Validator::begin();
+    let mut it = One::begin();
     let proposal = Proposal::new(FIRST, View::zero(), Sha256Digest([7; 32]));
     it.hear(Subject::Notarize { proposal });
     it.go_on();
@@ -242,9 +242,9 @@ fn it_goes_on_during_a_write() {
 fn another_life_takes_none() {
     let (mut it, write) = signs_in_a_write();
     it.put(&write);
-    let mut again = Loop::<Signature>::start(&options(0), leader, &it.disk, verdicts).unwrap();
+    let mut again = Validator::<Signature>::start(&options(0), leader, &it.disk, verdicts).unwrap();
     assert_eq!(again.wrote(write), Err(WroteError::OtherLife));
-    let mut other = Validator::begin();
+    let mut other = One::begin();
     other.running.expire(View::new(1));
     other.go_on();
     other.sign();

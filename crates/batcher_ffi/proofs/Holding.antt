@@ -1,14 +1,13 @@
 -- What a validator holds whose disk is verified.
-use Rattle.batcher_ffi.proofs.Words.{◌≡◌, ◌∙◌, ◌++◌, ◌&&◌, ℕ, Bool, true, false, List, [], ◌∷◌, Option, None, Some, length, list_all, map, refl, sym, ap}
-use Rattle.batcher_ffi.proofs.Words.{and_parts, subst}
-use Rattle.batcher_ffi.proofs.Words.{Attestation, CLoop, Keys, Sha256Digest, Signature, content_of, listing_in, loop_keys, loop_participants, subject_certified}
-use Rattle.batcher_ffi.proofs.Words.{IfSome, is_attested}
+use Rattle.batcher_ffi.proofs.Words.{Attestation, Bool, CValidator, IfSome, Keys, List, None, Option, Sha256Digest, Signature, Some, [], ℕ, ◌&&◌}
+use Rattle.batcher_ffi.proofs.Words.{◌++◌, ◌∙◌, ◌∷◌, ◌≡◌, and_parts, ap, content_of, false, is_attested, length, list_all, listing_in, map, refl}
+use Rattle.batcher_ffi.proofs.Words.{subject_certified, subst, sym, true, validator_keys, validator_participants}
 use Rattle.std.proofs.lemmas.List.Folds.{list_all-append, list_all-map}
 use Rattle.std.specs.Prelude.{Err, IfOk, IsSomeAnd, Ok, Result, option_and_then}
 use Rattle.batcher_bytes.specs.Encodings.{ProofView}
 use Rattle.batcher_ffi.specs.Certificates.{certifies_by}
 use Rattle.batcher_ffi.specs.Disks.{AreAllGood, Claim, HoldsVerified, are_good, claim_of, claims_on, is_true_claim, listed_behind, shown_by}
-use Rattle.batcher_ffi.specs.Loops.{earlier_in, kept_in}
+use Rattle.batcher_ffi.specs.Validators.{earlier_in, kept_in}
 use Rattle.batcher_types.specs.Lists.{is_some_and}
 use Rattle.batcher_types.specs.declared.messages.Certificate.{Certificate}
 
@@ -55,29 +54,29 @@ all_true keys n claims all (c ∷ cs) e h =
         ap (λ o. is_some_and o (λ xs. list_all (is_attested keys subject) xs)) is ∙ listed in
         (parts.0, and_true _ _ certifies below.1)
 
-pub holds_verified : (l : CLoop) (verdicts : List Bool)
+pub holds_verified : (l : CValidator) (verdicts : List Bool)
     → IfSome (shown_by l) (λ claims. length verdicts ≡ length claims
-    → are_good verdicts ≡ list_all (is_true_claim (loop_keys l)) claims)
+    → are_good verdicts ≡ list_all (is_true_claim (validator_keys l)) claims)
     → AreAllGood l verdicts → HoldsVerified l
 holds_verified l verdicts right good = of_shown (shown_by l) refl right good
   where
     of_shown : (shown : Option (List Claim)) → shown_by l ≡ shown
         → IfSome shown (λ claims. length verdicts ≡ length claims
-        → are_good verdicts ≡ list_all (is_true_claim (loop_keys l)) claims)
+        → are_good verdicts ≡ list_all (is_true_claim (validator_keys l)) claims)
         → IsSomeAnd shown (λ claims. (length verdicts ≡ length claims) × (are_good verdicts ≡ true))
         → HoldsVerified l
     of_shown None e right good = absurd good
     of_shown (Some all) e right good =
-        let both = all_true (loop_keys l) (loop_participants l) (map claim_of (earlier_in l)) all
+        let both = all_true (validator_keys l) (validator_participants l) (map claim_of (earlier_in l)) all
         (kept_in l) e (sym (right good.0) ∙ good.1) in
         record {
-          votes = sym (list_all-map (is_true_claim (loop_keys l)) claim_of (earlier_in l)) ∙ both.0;
+          votes = sym (list_all-map (is_true_claim (validator_keys l)) claim_of (earlier_in l)) ∙ both.0;
           certificates = both.1;
         }
 
-pub verified_holds : (l : CLoop) (verdicts : List Bool) (made : Result CLoop ℕ)
+pub verified_holds : (l : CValidator) (verdicts : List Bool) (made : Result CValidator ℕ)
     → IfSome (shown_by l) (λ claims. length verdicts ≡ length claims
-    → are_good verdicts ≡ list_all (is_true_claim (loop_keys l)) claims)
+    → are_good verdicts ≡ list_all (is_true_claim (validator_keys l)) claims)
     → IfOk made (λ it. (it ≡ l) × AreAllGood l verdicts) → IfOk made HoldsVerified
 verified_holds l verdicts (Ok it) right is =
     subst HoldsVerified (sym is.0) (holds_verified l verdicts right is.1)

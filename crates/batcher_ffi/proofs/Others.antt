@@ -1,17 +1,17 @@
 -- Whose journal is on a disk that isn't the validator's, and what else its bytes are.
 use Rattle.batcher_ffi.proofs.Words.{◌≡◌, ℕ, Bool, List, arith, refl, Cause, IsAnothers, OwnerFields, OpenFault, NotBegun, OtherVersion, OtherLengths}
-use Rattle.batcher_ffi.proofs.Words.{OtherParticipant, OtherKeys, OtherNamespace, NoMemoryToOpen, NoJournal, Contradiction, Format, Vote, LoopFault, NotOpened}
+use Rattle.batcher_ffi.proofs.Words.{OtherParticipant, OtherKeys, OtherNamespace, NoMemoryToOpen, NoJournal, Contradiction, Format, Vote, DiskFault, NotOpened}
 use Rattle.batcher_ffi.proofs.Words.{NotStarted, NoMemoryToStart, NoMemoryForVoter, start_code, OTHER_OWNER, OTHER_VERSION, DAMAGED, owner_format, Err, Version}
 use Rattle.batcher_ffi.proofs.Words.{inl, inr, signature_format, same_digest, sha256_format, vote_format, StartFault, Forged, Malformed, NotFinal, AreDamaged}
 use Rattle.batcher_ffi.proofs.Words.{HasNoVoter}
 
 module _ {G D : Type 0} (format : Format (Vote G D)) (same : D → D → Bool) (disk : List ℕ)
     (owner : OwnerFields) where
-  abbrev Because : LoopFault → Type 0
+  abbrev Because : DiskFault → Type 0
   Because fault = (one : OpenFault) → fault ≡ NotOpened one → Cause format disk owner same one
 
   pub is_anothers :
-      (fault : LoopFault) → start_code fault ≡ OTHER_OWNER → Because fault
+      (fault : DiskFault) → start_code fault ≡ OTHER_OWNER → Because fault
       → (one : OpenFault) × IsAnothers disk owner one
   is_anothers (NotOpened OtherLengths) e cause = (OtherLengths, cause OtherLengths refl)
   is_anothers (NotOpened OtherParticipant) e cause = (OtherParticipant, cause OtherParticipant refl)
@@ -27,7 +27,7 @@ module _ {G D : Type 0} (format : Format (Vote G D)) (same : D → D → Bool) (
   is_anothers NoMemoryToStart e cause = absurd (omega (arith, e))
 
   pub is_other_version :
-      (fault : LoopFault) → start_code fault ≡ OTHER_VERSION → Because fault
+      (fault : DiskFault) → start_code fault ≡ OTHER_VERSION → Because fault
       → owner_format.decoding disk ≡ Err Version
   is_other_version (NotOpened OtherVersion) e cause = cause OtherVersion refl
   is_other_version (NotOpened OtherLengths) e cause = absurd (omega (arith, e))
@@ -44,12 +44,12 @@ module _ {G D : Type 0} (format : Format (Vote G D)) (same : D → D → Bool) (
 
 -- What is on a disk that is damaged.
 module _ (disk : List ℕ) (owner : OwnerFields) where
-  abbrev Opening : LoopFault → Type 0
+  abbrev Opening : DiskFault → Type 0
   Opening fault =
       (one : OpenFault) → fault ≡ NotOpened one
       → Cause (vote_format signature_format sha256_format) disk owner same_digest one
 
-  abbrev Starting : LoopFault → Type 0
+  abbrev Starting : DiskFault → Type 0
   Starting fault = (one : StartFault) → fault ≡ NotStarted one → HasNoVoter owner disk one
 
   no_memory : (e : NotFinal ≡ NoMemoryForVoter) → ⊥
@@ -62,7 +62,7 @@ module _ (disk : List ℕ) (owner : OwnerFields) where
   forged e = cc
 
   pub are_damaged :
-      (fault : LoopFault) → start_code fault ≡ DAMAGED → Opening fault → Starting fault
+      (fault : DiskFault) → start_code fault ≡ DAMAGED → Opening fault → Starting fault
       → AreDamaged owner disk
   are_damaged (NotOpened NoJournal) e opening starting = inl (opening NoJournal refl)
   are_damaged (NotOpened Contradiction) e opening starting =

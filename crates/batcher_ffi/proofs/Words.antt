@@ -25,7 +25,7 @@ pub use Rattle.batcher_bytes.specs.declared.signature.Keys.{Keys}
 pub use Rattle.batcher_bytes.specs.declared.signature.Signature.{Signature}
 pub use Rattle.batcher_ffi.specs.Certificates.{is_quorum_among, listing_at, listing_in, signers_differ}
 pub use Rattle.batcher_ffi.specs.Flat.{AreIn, attestation_in, raw_in}
-pub use Rattle.batcher_ffi.specs.Loops.{AreDamaged, start_code, CLoop, loop_config, loop_keys, loop_participants, config_by}
+pub use Rattle.batcher_ffi.specs.Validators.{AreDamaged, start_code, CValidator, validator_config, validator_keys, validator_participants, config_by}
 pub use Rattle.batcher_ffi.specs.Output.{FillsRoom, Made, Puts, WritesCertificate, WritesContent}
 pub use Rattle.batcher_ffi.specs.Ownership.{block_owned, owned_or_null}
 pub use Rattle.batcher_ffi.specs.Rounds.{CRound, IsOfQuorum, MakesQuorum, config_of_handle, is_short}
@@ -52,8 +52,8 @@ pub use Rattle.batcher_types.specs.declared.positions.Round.{Round}
 pub use Rattle.batcher_types.specs.declared.scheme.keyed.Name.{Name}
 pub use Rattle.batcher_validator.specs.Histories.{again, expired}
 pub use Rattle.batcher_validator.specs.Running.{RunMeets}
-pub use Rattle.batcher_validator.specs.declared.starting.LoopFault.{LoopFault}
-pub use Rattle.batcher_validator.specs.declared.starting.LoopFault.TheVariants.{NotOpened, NotStarted, OutOfMemory as NoMemoryToStart}
+pub use Rattle.batcher_validator.specs.declared.starting.DiskFault.{DiskFault}
+pub use Rattle.batcher_validator.specs.declared.starting.DiskFault.TheVariants.{NotOpened, NotStarted, OutOfMemory as NoMemoryToStart}
 pub use Rattle.batcher_verdicts.specs.Judging.{keys_in, meaning_by, SameAny}
 pub use Rattle.batcher_verdicts.specs.declared.either.Either.TheVariants.{Batchable, OneByOne}
 pub use Rattle.batcher_validator.specs.Unstarted.{HasNoVoter}

@@ -16,13 +16,13 @@ use Rattle.batcher_bytes.specs.declared.signature.Keys.{Keys}
 use Rattle.batcher_bytes.specs.declared.signature.Signature.{Signature}
 use Rattle.batcher_ffi.specs.Certificates.{certifies_by, listing_in}
 use Rattle.batcher_ffi.specs.Flat.{raw_vote_in}
-use Rattle.batcher_ffi.specs.Loops.{CLoop, IsMade, WhyNotMade, earlier_in, kept_in, loop_keys}
-use Rattle.batcher_ffi.specs.Loops.{loop_participants}
+use Rattle.batcher_ffi.specs.Validators.{CValidator, IsMade, WhyNotMade, earlier_in, kept_in}
+use Rattle.batcher_ffi.specs.Validators.{validator_keys, validator_participants}
 use Rattle.batcher_ffi.specs.Rounds.{is_one_of}
 use Rattle.batcher_ffi.specs.Truths.{is_attested}
 use Rattle.batcher_ffi.specs.declared.codes.TheConstants.{DONE, NOT_VERIFIED, OUT_OF_MEMORY, SHORT}
 use Rattle.batcher_ffi.specs.declared.flat.FlatVote.{FlatVote}
-use Rattle.batcher_ffi.specs.declared.starting.LoopOptions.{LoopOptions}
+use Rattle.batcher_ffi.specs.declared.starting.ValidatorOptions.{ValidatorOptions}
 
 -- an attestation with what it is of: what a vote says, and each item of a certificate's list
 abbrev pub Claim : Type 0
@@ -48,49 +48,51 @@ listed_behind n claims (c ∷ others) =
     (listing_in n (content_of c).bytes)
 
 -- What a disk shows by which a validator is made: its own votes, and what its certificates list.
-abbrev pub shown_by : CLoop → Option (List Claim)
-shown_by l = listed_behind (loop_participants l) (map claim_of (earlier_in l)) (kept_in l)
+abbrev pub shown_by : CValidator → Option (List Claim)
+shown_by l = listed_behind (validator_participants l) (map claim_of (earlier_in l)) (kept_in l)
 
 abbrev pub are_good : List Bool → Bool
 are_good verdicts = list_all (λ b. b) verdicts
 
 -- Verdicts on what a disk shows, which are all yes just where each attests.
-abbrev pub AreVerifiedAt : LoopOptions → List ℕ → List ℕ → List Bool → Type 0
+abbrev pub AreVerifiedAt : ValidatorOptions → List ℕ → List ℕ → List Bool → Type 0
 AreVerifiedAt options namespace disk verdicts =
-    (l : CLoop) → IsMade options namespace disk l → IfSome (shown_by l) (λ claims.
+    (l : CValidator) → IsMade options namespace disk l → IfSome (shown_by l) (λ claims.
     length verdicts ≡ length claims
-    → are_good verdicts ≡ list_all (is_true_claim (loop_keys l)) claims)
+    → are_good verdicts ≡ list_all (is_true_claim (validator_keys l)) claims)
 
 -- There is a verdict on each, and it is yes.
-abbrev pub AreAllGood : CLoop → List Bool → Type 0
+abbrev pub AreAllGood : CValidator → List Bool → Type 0
 AreAllGood l verdicts =
     IsSomeAnd (shown_by l) (λ claims.
     (length verdicts ≡ length claims) × (are_good verdicts ≡ true))
 
 -- One has no verdict, or none that is yes, or a certificate doesn't list a quorum.
-abbrev pub IsUnverified : CLoop → List Bool → Type 0
+abbrev pub IsUnverified : CValidator → List Bool → Type 0
 IsUnverified l verdicts =
     IfSome (shown_by l) (λ claims.
     (length verdicts ≢ length claims) ⊎ (are_good verdicts ≡ false))
 
 -- Each of its own votes attests, and each certificate that it keeps is a list of a quorum, of which
 -- each attests.
-pub record HoldsVerified (l : CLoop) : Type 0 where
-  pub votes : list_all (λ vote. is_true_claim (loop_keys l) (claim_of vote)) (earlier_in l) ≡ true
-  pub certificates : list_all (λ c. certifies_by (loop_keys l) (loop_participants l)
+pub record HoldsVerified (l : CValidator) : Type 0 where
+  pub votes :
+      list_all (λ vote. is_true_claim (validator_keys l) (claim_of vote)) (earlier_in l) ≡ true
+  pub certificates : list_all (λ c. certifies_by (validator_keys l) (validator_participants l)
       (subject_certified c) (content_of c).bytes) (kept_in l) ≡ true
 
-module _ (options : LoopOptions) (namespace disk : List ℕ) where
+module _ (options : ValidatorOptions) (namespace disk : List ℕ) where
   -- why a disk makes no validator, or is not verified
   abbrev pub WhyNoneIsMade : List Bool → ℕ → Type 0
   WhyNoneIsMade verdicts code =
       WhyNotMade options namespace disk code
-      ⊎ ((code ≡ NOT_VERIFIED) × ((l : CLoop) × (IsMade options namespace disk l
+      ⊎ ((code ≡ NOT_VERIFIED) × ((l : CValidator) × (IsMade options namespace disk l
       × IsUnverified l verdicts)))
 
   -- What a call that makes a validator does to a handle: where it fails, the handle stays as it
   -- was.
-  pub record MakesLoop (old new : Option CLoop) (code : ℕ) (verdicts : List Bool) : Type 0 where
+  pub record MakesValidator (old new : Option CValidator) (code : ℕ) (verdicts : List Bool)
+      : Type 0 where
     pub done : code ≡ DONE → IsSomeAnd new (IsMade options namespace disk)
     pub verified : code ≡ DONE → IsSomeAnd new HoldsVerified
     pub refused : code ≢ DONE → WhyNoneIsMade verdicts code
@@ -123,9 +125,10 @@ pub record ListsVotes (shown : Option (List Claim)) (code : ℕ) (room list : Li
 
 -- What the disk of a validator shows is listed, or no validator is made by it, and the code says
 -- why.
-abbrev pub ListsDisk : LoopOptions → List ℕ → List ℕ → ℕ → List FlatVote → List FlatVote → ℕ → ℕ
+abbrev pub ListsDisk : ValidatorOptions → List ℕ → List ℕ → ℕ → List FlatVote → List FlatVote → ℕ
+    → ℕ
     → Type 0
 ListsDisk options namespace disk code room list old count =
-    ((l : CLoop) × (IsMade options namespace disk l
+    ((l : CValidator) × (IsMade options namespace disk l
     × ListsVotes (shown_by l) code room list old count))
     ⊎ (WhyNotMade options namespace disk code × ((list ≡ room) × (count ≡ old)))

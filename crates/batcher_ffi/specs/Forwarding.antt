@@ -21,7 +21,8 @@ use Rattle.batcher_validator.specs.Queues.{HasKey}
 use Rattle.batcher_validator.specs.Shelves.{kind_and_round}
 use Rattle.batcher_ffi.specs.Certificates.{listing_in}
 use Rattle.batcher_ffi.specs.Flat.{round_of_flat}
-use Rattle.batcher_ffi.specs.Loops.{CLoop, kept_in, loop_participants, loop_round_config}
+use Rattle.batcher_ffi.specs.Validators.{CValidator, kept_in, validator_participants}
+use Rattle.batcher_ffi.specs.Validators.{validator_round_config}
 use Rattle.batcher_ffi.specs.Output.{FillsRoom}
 use Rattle.batcher_ffi.specs.Rounds.{is_one_of}
 use Rattle.batcher_ffi.specs.declared.caller.Caller.{Caller}
@@ -46,13 +47,13 @@ pub record Lacks (round : OwnRound) (made : Notarized) (n : ℕ) (lacking : List
   pub listed : List (Attestation Signature)
   pub listing_is : listing_in n made.certificate.bytes ≡ Some listed
   pub missing : List Participant
-  pub missing_is : ForEachHistory loop_round_config round (λ x past.
+  pub missing_is : ForEachHistory validator_round_config round (λ x past.
       missing ≡ missing_after x past made.proposal)
   pub lacking_is : lacking ≡ others_than listed missing
 
-module _ (l : CLoop) where
+module _ (l : CValidator) where
   abbrev pub round_at : ℕ → Option OwnRound
-  round_at view = option_map (λ slot. slot.round) (slot_at l.validator.voter.node.rounds view)
+  round_at view = option_map (λ slot. slot.round) (slot_at l.voter.node.rounds view)
 
   -- They are listed and counted. Where the notarization lists no quorum, or its view is over, none
   -- are.
@@ -60,10 +61,10 @@ module _ (l : CLoop) where
       : Type 0 where
     pub codes : is_one_of (DONE ∷ IDLE ∷ OUT_OF_MEMORY ∷ []) code ≡ true
     pub done : code ≡ DONE → (its : OwnRound) × ((round_at made.proposal.round.view.0 ≡ Some its)
-        × ((lacking : List Participant) × (Lacks its made (loop_participants l) lacking
+        × ((lacking : List Participant) × (Lacks its made (validator_participants l) lacking
         × ((count ≡ length lacking) × FillsRoom participant lacking room list))))
     pub none : code ≡ IDLE → (round_at made.proposal.round.view.0 ≡ None)
-        ⊎ (listing_in (loop_participants l) made.certificate.bytes ≡ None)
+        ⊎ (listing_in (validator_participants l) made.certificate.bytes ≡ None)
     pub stays : code ≢ DONE → (list ≡ room) × (count ≡ old)
 
   -- Of what is notarized in the round of a proposal, if anything is.

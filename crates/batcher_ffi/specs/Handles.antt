@@ -2,7 +2,7 @@
 use Rattle.std.specs.Prelude.{◌≡◌, ◌≢◌, ℕ, Option, Some, None}
 use Rattle.batcher_ffi.specs.declared.codes.TheConstants.{NONE}
 use Rattle.batcher_ffi.specs.Files.{CFiles}
-use Rattle.batcher_ffi.specs.Loops.{CLoop}
+use Rattle.batcher_ffi.specs.Validators.{CValidator}
 use Rattle.batcher_ffi.specs.Rounds.{CRound}
 
 -- A call on an empty handle leaves it empty, and what it writes to as it was, and the code says so.
@@ -18,8 +18,9 @@ abbrev pub OnRound : Option CRound → Option CRound → ℕ → Type 0 → (CRo
 OnRound = OnHandle
 
 -- of a validator
-abbrev pub OnLoop : Option CLoop → Option CLoop → ℕ → Type 0 → (CLoop → CLoop → Type 0) → Type 0
-OnLoop = OnHandle
+abbrev pub OnValidator : Option CValidator → Option CValidator → ℕ → Type 0
+    → (CValidator → CValidator → Type 0) → Type 0
+OnValidator = OnHandle
 
 -- of files
 abbrev pub OnFiles : Option CFiles → Option CFiles → ℕ → Type 0 → (CFiles → CFiles → Type 0)

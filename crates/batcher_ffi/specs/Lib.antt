@@ -7,7 +7,7 @@ pub mod Output
 pub mod Rounds
 pub mod Answers
 pub mod Tasks
-pub mod Loops
+pub mod Validators
 pub mod Disks
 pub mod Forwarding
 pub mod Progress

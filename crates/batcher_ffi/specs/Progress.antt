@@ -17,7 +17,7 @@ use Rattle.batcher_node.specs.Nodes.{slot_at}
 use Rattle.batcher_ffi.specs.declared.caller.Caller.{Caller}
 use Rattle.batcher_ffi.specs.declared.progress.FlatCounts.{FlatCounts}
 use Rattle.batcher_ffi.specs.declared.progress.FlatProgress.{FlatProgress}
-use Rattle.batcher_ffi.specs.Loops.{CLoop, loop_round_config}
+use Rattle.batcher_ffi.specs.Validators.{CValidator, validator_round_config}
 
 abbrev pub leader_shown : FlatProgress → Option Participant
 leader_shown flat = if flat.has_leader then Some (participant flat.leader) else None
@@ -25,7 +25,7 @@ leader_shown flat = if flat.has_leader then Some (participant flat.leader) else 
 module _ (round : RoundView (Signed Caller 1) Signature Sha256Digest) where
   -- The votes of a kind that wait are counted, as its history says.
   abbrev pub IsCounted : Kind → FlatCounts → Type 0
-  IsCounted kind counts = ForEachHistory loop_round_config round (λ x past.
+  IsCounted kind counts = ForEachHistory validator_round_config round (λ x past.
       (counts.pending ≡ length (fresh_votes x past kind))
       × ((counts.verified ≡ length (proven_votes x past kind))
       × (counts.certified ≡ is_certified past kind)))
@@ -34,9 +34,10 @@ module _ (round : RoundView (Signed Caller 1) Signature Sha256Digest) where
     pub notarizes : IsCounted Notarization flat.notarizes
     pub nullifies : IsCounted Nullification flat.nullifies
     pub finalizes : IsCounted Finalization flat.finalizes
-    pub led : ForEachHistory loop_round_config round (λ x past. leader_shown flat ≡ leader_of past)
+    pub led :
+        ForEachHistory validator_round_config round (λ x past. leader_shown flat ≡ leader_of past)
     pub proposed :
-        ForEachHistory loop_round_config round (λ x past.
+        ForEachHistory validator_round_config round (λ x past.
         flat.has_proposal ≡ is_some (selected_proposal x past))
 
 -- nothing was said
@@ -56,6 +57,6 @@ IsOf None flat = IsUnbegun flat
 IsOf (Some round) flat = IsProgress round flat
 
 -- How far a view of a validator is.
-abbrev pub AsksProgress : CLoop → ℕ → FlatProgress → Type 0
+abbrev pub AsksProgress : CValidator → ℕ → FlatProgress → Type 0
 AsksProgress l view flat =
-    IsOf (option_map (λ slot. slot.round) (slot_at l.validator.voter.node.rounds view)) flat
+    IsOf (option_map (λ slot. slot.round) (slot_at l.voter.node.rounds view)) flat

@@ -4,8 +4,8 @@
 pub const DONE: u8 = 0;
 /// The handle is empty.
 pub const NONE: u8 = 1;
-/// A code or a length that means nothing, no participant, a signer that takes no part, or a list of
-/// verdicts that isn't as long as that of attestations.
+/// A code or a length that means nothing, no participant, too many of them or of views ahead, a
+/// signer that takes no part, or a list of verdicts that isn't as long as that of attestations.
 pub const MALFORMED: u8 = 2;
 /// It is of another round.
 pub const ELSEWHERE: u8 = 3;
@@ -33,7 +33,7 @@ pub const VERIFY: u8 = 13;
 pub const STALE: u8 = 14;
 /// It is of a peer that was blocked before, so it wasn't looked at.
 pub const DROPPED: u8 = 15;
-/// It is of a peer that takes no part, so it wasn't looked at.
+/// It is of a peer or a leader that takes no part, so it wasn't looked at.
 pub const UNKNOWN: u8 = 16;
 /// The view is before the finalized one.
 pub const PASSED: u8 = 17;

@@ -6,14 +6,14 @@ ghost use Rattle.std.specs.Option.{option_map};
 ghost use Rattle.batcher_ffi.specs.Disks.{AreAllGood, AreVerifiedAt, FillsVotes, HoldsVerified};
 ghost use Rattle.batcher_ffi.specs.Disks.{IsUnverified, ListsDisk, ListsVotes, WhyNoneIsMade};
 ghost use Rattle.batcher_ffi.specs.Disks.{claim_of, claims_on, shown_by};
-ghost use Rattle.batcher_ffi.specs.Loops.{IsMade};
+ghost use Rattle.batcher_ffi.specs.Validators.{IsMade};
 ghost use Rattle.batcher_ffi.specs.Rounds.{is_one_of};
 
 use crate::certificates::{all_attest, listing_of};
 use crate::codes::{DONE, NOT_VERIFIED, OUT_OF_MEMORY, SHORT};
 use crate::flat::FlatVote;
-use crate::loops::Looping;
-use crate::starting::{LoopOptions, made};
+use crate::starting::{ValidatorOptions, made};
+use crate::validators::CValidator;
 use batcher_bytes::Signature;
 use batcher_types::messages::{Attestation, Sha256Digest, Subject, Vote};
 use std::alloc::{AllocError, Global};
@@ -22,11 +22,11 @@ use std::alloc::{AllocError, Global};
 /// attests. Else the code says why there is none.
 pub fn started_by(
     alloc: Global,
-    options: &LoopOptions,
+    options: &ValidatorOptions,
     namespace: &[u8],
     disk: &[u8],
     verdicts: &[bool],
-) -> Result<Looping, u8>
+) -> Result<CValidator, u8>
     requires { AreVerifiedAt options.now namespace.now disk.now verdicts.now }
     ensures made { IfOk result (IsMade options.now namespace.now disk.now) }
     ensures verified { IfOk result HoldsVerified }
@@ -40,7 +40,7 @@ pub fn started_by(
 }
 
 // The validator, where there is a verdict on each vote that its disk shows, and each is yes.
-fn verified(alloc: Global, it: Looping, verdicts: &[bool]) -> Result<Looping, u8>
+fn verified(alloc: Global, it: CValidator, verdicts: &[bool]) -> Result<CValidator, u8>
     ensures verified { IfOk result (λ made. (made ≡ it) × AreAllGood it verdicts.now) }
     ensures refused { IfErr result (λ code. (code ≡ OUT_OF_MEMORY)
         ⊎ ((code ≡ NOT_VERIFIED) × IsUnverified it verdicts.now)) }
@@ -53,7 +53,7 @@ fn verified(alloc: Global, it: Looping, verdicts: &[bool]) -> Result<Looping, u8
     Err(code)
 }
 
-fn verify(alloc: Global, it: &Looping, verdicts: &[bool]) -> u8
+fn verify(alloc: Global, it: &CValidator, verdicts: &[bool]) -> u8
     ensures codes { is_one_of (DONE ∷ NOT_VERIFIED ∷ OUT_OF_MEMORY ∷ []) result ≡ true }
     ensures done { result ≡ DONE → AreAllGood it.now verdicts.now }
     ensures not_verified { result ≡ NOT_VERIFIED → IsUnverified it.now verdicts.now }
@@ -75,14 +75,14 @@ fn verify(alloc: Global, it: &Looping, verdicts: &[bool]) -> u8
 // doesn't list a quorum.
 fn shown(
     alloc: Global,
-    it: &Looping,
+    it: &CValidator,
 ) -> Result<Option<Vec<Vote<Signature, Sha256Digest>>>, AllocError>
     ensures { IfOk result (λ found. option_map (λ votes. map claim_of votes.items) found
         ≡ shown_by it.now) }
 {
-    let mut votes = Vec::from_slice(alloc, it.validator.earlier_votes())?;
-    let participants = it.validator.participants();
-    let mut rest = it.validator.certificates();
+    let mut votes = Vec::from_slice(alloc, it.earlier_votes())?;
+    let participants = it.participants();
+    let mut rest = it.certificates();
     while let [first, others @ ..] = rest {
         let Some(all) = listing_of(alloc, first.content().bytes(), participants)? else {
             return Ok(None);
@@ -110,7 +110,7 @@ fn push_claims(
 /// Lists the votes that a disk shows, of which the validator there begins or goes on.
 pub fn list_disk(
     alloc: Global,
-    options: &LoopOptions,
+    options: &ValidatorOptions,
     namespace: &[u8],
     disk: &[u8],
     list: &mut [FlatVote],
@@ -129,7 +129,7 @@ pub fn list_disk(
     }
 }
 
-fn write_shown(alloc: Global, it: &Looping, list: &mut [FlatVote], count: &mut u64) -> u8
+fn write_shown(alloc: Global, it: &CValidator, list: &mut [FlatVote], count: &mut u64) -> u8
     ensures { ListsVotes (shown_by it.now) result list.old list.new count.old count.new }
 {
     match shown(alloc, it) {

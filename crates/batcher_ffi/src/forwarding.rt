@@ -8,7 +8,7 @@ use crate::caller::Caller;
 use crate::certificates::{has_signer, listing_of};
 use crate::codes::{DONE, IDLE, OUT_OF_MEMORY};
 use crate::flat::FlatProposal;
-use crate::loops::Looping;
+use crate::validators::CValidator;
 use crate::writing::write_signers;
 use batcher::round::Round;
 use batcher_bytes::{Proof, Signature, Signed};
@@ -19,7 +19,7 @@ use std::alloc::{AllocError, Global};
 /// Who isn't known to have the payload of the proposal that is notarized in this round: neither a
 /// vote that came shows it, nor the notarization.
 pub fn lacking(
-    it: &Looping,
+    it: &CValidator,
     alloc: Global,
     proposal: &FlatProposal,
     list: &mut [u32],
@@ -27,17 +27,14 @@ pub fn lacking(
 ) -> u8
     ensures { AsksLacking it.now result proposal.now list.old list.new count.old count.new }
 {
-    match it
-        .validator
-        .certificate(Kind::Notarization, proposal.round())
-    {
+    match it.certificate(Kind::Notarization, proposal.round()) {
         Some(Certificate::Notarization(made)) => list_lacking(it, alloc, made, list, count),
         _ => IDLE,
     }
 }
 
 fn list_lacking(
-    it: &Looping,
+    it: &CValidator,
     alloc: Global,
     made: &Notarization<Proof, Sha256Digest>,
     list: &mut [u32],
@@ -45,10 +42,10 @@ fn list_lacking(
 ) -> u8
     ensures { ListsLacking it.now made.now result list.old list.new count.old count.new }
 {
-    let Some(round) = it.validator.voter().node().round(made.proposal.round.view) else {
+    let Some(round) = it.voter().node().round(made.proposal.round.view) else {
         return IDLE;
     };
-    match lacking_in(alloc, round, made, it.validator.participants()) {
+    match lacking_in(alloc, round, made, it.participants()) {
         Ok(Some(lacking)) => {
             *count = lacking.len() as u64;
             write_signers(&lacking, list);

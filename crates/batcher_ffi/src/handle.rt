@@ -5,13 +5,13 @@
 ghost use Rattle.std.specs.Prelude.{◌≡◌, Option, None, Some};
 ghost use Rattle.std.specs.Option.{MatchOption};
 ghost use Rattle.batcher_ffi.specs.Files.{CFiles};
-ghost use Rattle.batcher_ffi.specs.Loops.{CLoop};
+ghost use Rattle.batcher_ffi.specs.Validators.{CValidator};
 ghost use Rattle.batcher_ffi.specs.Rounds.{CRound};
 
 use crate::caller::Caller;
 use crate::files::Files;
-use crate::loops::Looping;
 use crate::unboxed::Unboxed;
+use crate::validators::CValidator;
 use batcher_verdicts::AnyRound;
 use std::alloc::Global;
 use std::marker::Model;
@@ -105,62 +105,62 @@ impl RoundHandle {
 
 /// A validator, or none. C sees one pointer, which is null where there is none.
 #[repr(C)]
-pub struct LoopHandle {
+pub struct ValidatorHandle {
     pub(crate) at: *mut u8,
     alloc: Global,
-    pub ghost value: { Option CLoop },
+    pub ghost value: { Option CValidator },
 }
 
-impl Model for LoopHandle {
+impl Model for ValidatorHandle {
     ghost use Rattle.batcher_ffi.specs.Ownership.{owned_or_null};
-    ghost use Rattle.batcher_ffi.specs.Rows.{loop_row};
+    ghost use Rattle.batcher_ffi.specs.Rows.{validator_row};
 
-    ghost also_owns = { λ h. owned_or_null loop_row h.alloc h.at h.value };
+    ghost also_owns = { λ h. owned_or_null validator_row h.alloc h.at h.value };
 }
 
-impl LoopHandle {
+impl ValidatorHandle {
     // A handle of none.
-    fn empty(alloc: Global) -> LoopHandle
+    fn empty(alloc: Global) -> ValidatorHandle
         ensures { result.value ≡ None }
     {
-        LoopHandle {
+        ValidatorHandle {
             at: ptr::null_mut(),
             alloc,
         }
     }
 
-    fn from_unboxed(whole: Unboxed<Looping, Global>) -> LoopHandle
+    fn from_unboxed(whole: Unboxed<CValidator, Global>) -> ValidatorHandle
         ensures { result.value ≡ Some whole.value }
     {
         let Unboxed { at, alloc } = whole;
-        LoopHandle {
+        ValidatorHandle {
             at: at as *mut u8,
             alloc,
         }
     }
 
-    fn into_unboxed(self) -> Option<Unboxed<Looping, Global>>
+    fn into_unboxed(self) -> Option<Unboxed<CValidator, Global>>
         ensures { MatchOption result (self.value ≡ None) (λ whole. self.value ≡ Some whole.value) }
     {
-        let LoopHandle { at, alloc } = self;
+        let ValidatorHandle { at, alloc } = self;
         if at.is_null() {
             None
         } else {
             Some(Unboxed {
-                at: at as *mut Looping,
+                at: at as *mut CValidator,
                 alloc,
             })
         }
     }
 
     /// A handle of the validator.
-    fn of(looping: Box<Looping>) -> LoopHandle
-        ensures { result.value ≡ Some looping.value }
+    fn of(validator: Box<CValidator>) -> ValidatorHandle
+        ensures { result.value ≡ Some validator.value }
     {
-        LoopHandle::from_unboxed(Unboxed::of(looping))
+        ValidatorHandle::from_unboxed(Unboxed::of(validator))
     }
 
-    fn into_box(self) -> Option<Box<Looping>>
+    fn into_box(self) -> Option<Box<CValidator>>
         ensures { MatchOption result (self.value ≡ None) (λ b. self.value ≡ Some b.value) }
     {
         match self.into_unboxed() {
@@ -170,19 +170,19 @@ impl LoopHandle {
     }
 
     /// Takes the validator out, where there is one, so that the handle is empty.
-    pub fn take(&mut self, alloc: Global) -> Option<Box<Looping>>
+    pub fn take(&mut self, alloc: Global) -> Option<Box<CValidator>>
         ensures taken { MatchOption result (self.old.value ≡ None)
-            (λ looping. self.old.value ≡ Some looping.value) }
+            (λ validator. self.old.value ≡ Some validator.value) }
         ensures left { self.new.value ≡ None }
     {
-        mem::replace(self, LoopHandle::empty(alloc)).into_box()
+        mem::replace(self, ValidatorHandle::empty(alloc)).into_box()
     }
 
     /// Puts a validator in. One that was there is freed.
-    pub fn put(&mut self, looping: Box<Looping>)
-        ensures { self.new.value ≡ Some looping.value }
+    pub fn put(&mut self, validator: Box<CValidator>)
+        ensures { self.new.value ≡ Some validator.value }
     {
-        drop(mem::replace(self, LoopHandle::of(looping)).into_box());
+        drop(mem::replace(self, ValidatorHandle::of(validator)).into_box());
     }
 }
 

@@ -4,11 +4,11 @@
 ghost use Rattle.std.specs.Prelude.{◌≡◌, None, Some};
 ghost use Rattle.std.specs.Borrow.{sem};
 ghost use Rattle.std.specs.Option.{MatchOption};
-ghost use Rattle.batcher_ffi.specs.Lending.{LendsFiles, LendsLoop, LendsRound};
+ghost use Rattle.batcher_ffi.specs.Lending.{LendsFiles, LendsRound, LendsValidator};
 
 use crate::files::Files;
-use crate::handle::{FilesHandle, LoopHandle, Round, RoundHandle};
-use crate::loops::Looping;
+use crate::handle::{FilesHandle, Round, RoundHandle, ValidatorHandle};
+use crate::validators::CValidator;
 
 impl RoundHandle {
     /// The round, where there is one.
@@ -26,14 +26,14 @@ impl RoundHandle {
     }
 }
 
-impl LoopHandle {
+impl ValidatorHandle {
     /// The validator, where there is one.
-    pub fn as_mut(&mut self) -> Option<&mut Looping>
-        ensures* writes_back { sem 𝓛 (LendsLoop self.entry result) }
+    pub fn as_mut(&mut self) -> Option<&mut CValidator>
+        ensures* writes_back { sem 𝓛 (LendsValidator self.entry result) }
         ensures value { MatchOption result (self.old.value ≡ None)
-            (λ looping. self.old.value ≡ Some looping.now) }
+            (λ validator. self.old.value ≡ Some validator.now) }
     {
-        let at = self.at as *mut Looping;
+        let at = self.at as *mut CValidator;
         if at.is_null() {
             None
         } else {

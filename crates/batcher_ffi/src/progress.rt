@@ -3,7 +3,7 @@
 ghost use Rattle.batcher_ffi.specs.Progress.{AsksProgress, IsCounted, IsProgress, IsUnbegun};
 
 use crate::caller::Caller;
-use crate::loops::Looping;
+use crate::validators::CValidator;
 use batcher::round::Round;
 use batcher_bytes::Signed;
 use batcher_types::messages::{Kind, Sha256Digest};
@@ -35,10 +35,10 @@ pub struct FlatProgress {
 }
 
 /// How far a view is.
-pub fn progress(it: &Looping, view: u64) -> FlatProgress
+pub fn progress(it: &CValidator, view: u64) -> FlatProgress
     ensures { AsksProgress it.now view result }
 {
-    match it.validator.voter().node().round(View(view)) {
+    match it.voter().node().round(View(view)) {
         Some(round) => of_round(round),
         None => unbegun(),
     }

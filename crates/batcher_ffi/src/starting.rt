@@ -4,34 +4,41 @@ ghost use Rattle.std.specs.Prelude.{◌≡◌, ◌≢◌, ◌≤◌, [], Err, If
 ghost use Rattle.std.specs.Prelude.{false, true};
 ghost use Rattle.batcher_bytes.specs.declared.fault.DecodeFault.TheVariants.{Version};
 ghost use Rattle.batcher_journal.specs.Text.{fields_of, owner_format};
-ghost use Rattle.batcher_ffi.specs.Loops.{AreDamaged, GoesOnFrom, IsMade, IsOf, IsOthers};
-ghost use Rattle.batcher_ffi.specs.Loops.{WhyNotMade, loop_disk, loop_writing, start_code};
-ghost use Rattle.batcher_ffi.specs.Loops.{start_codes};
+ghost use Rattle.batcher_ffi.specs.Validators.{AreDamaged, AreWithin, GoesOnFrom, IsMade, IsOf};
+ghost use Rattle.batcher_ffi.specs.Validators.{IsOthers, WhyNotMade, start_code, start_codes};
+ghost use Rattle.batcher_ffi.specs.Validators.{validator_disk, validator_writing};
 ghost use Rattle.batcher_ffi.specs.Rounds.{is_one_of};
 
 use crate::caller::Caller;
 use crate::codes::{
     BEGUN, DAMAGED, MALFORMED, NOT_BEGUN, OTHER_OWNER, OTHER_VERSION, OUT_OF_MEMORY,
 };
-use crate::loops::Looping;
+use crate::validators::CValidator;
 use crate::writing::copied;
 use batcher_bytes::{Keys, Signed, WIDTH};
 use batcher_journal::{OpenFault, Owner};
 use batcher_types::positions::{Epoch, Participant};
 use batcher_types::scheme::names;
-use batcher_validator::{Loop, LoopFault};
+use batcher_validator::{DiskFault, Validator};
 use batcher_voter::StartFault;
 use std::alloc::Global;
 use std::rc::Rc;
 
+/// How many participants there may be.
+pub const MOST_PARTICIPANTS: u32 = 65_535;
+/// How many views beyond the current one may be of the window. A faulty participant can have a
+/// validator keep something of each.
+pub const MOST_AHEAD: u64 = 1_024;
+
 /// What a validator is made of.
 #[repr(C)]
 #[derive(Clone, Copy)]
-pub struct LoopOptions {
+pub struct ValidatorOptions {
     pub epoch: u64,
-    /// How many views beyond the current one are of its window.
+    /// How many views beyond the current one are of its window, `MOST_AHEAD` at most.
     pub ahead: u64,
-    /// How many participants there are, whose names are 0, 1, .. in this order.
+    /// How many participants there are, whose names are 0, 1, .. in this order, and
+    /// `MOST_PARTICIPANTS` at most.
     pub participants: u32,
     /// Which of them it is.
     pub participant: u32,
@@ -46,14 +53,14 @@ pub struct LoopOptions {
 /// A validator that begins, or goes on by what its disk has. Else the code says why there is none.
 pub fn made(
     alloc: Global,
-    options: &LoopOptions,
+    options: &ValidatorOptions,
     namespace: &[u8],
     disk: &[u8],
-) -> Result<Looping, u8>
+) -> Result<CValidator, u8>
     ensures made { IfOk result (IsMade options.now namespace.now disk.now) }
     ensures refused { IfErr result (WhyNotMade options.now namespace.now disk.now) }
 {
-    if options.participant >= options.participants {
+    if !are_within(options) {
         return Err(MALFORMED);
     }
     if options.begins && !disk.is_empty() {
@@ -82,19 +89,28 @@ pub fn made(
     started(alloc, scheme, options, &owner, disk)
 }
 
+// Whether it takes part, and there aren't too many participants or views ahead.
+fn are_within(options: &ValidatorOptions) -> bool
+    ensures { MatchBool result (AreWithin options.now) (AreWithin options.now → ⊥) }
+{
+    options.participant < options.participants
+        && options.participants <= MOST_PARTICIPANTS
+        && options.ahead <= MOST_AHEAD
+}
+
 fn begun(
     alloc: Global,
     scheme: Rc<Signed<Caller, true>>,
-    options: &LoopOptions,
+    options: &ValidatorOptions,
     owner: &Owner,
-) -> Result<Looping, u8>
+) -> Result<CValidator, u8>
     requires { 1 ≤ length scheme.value.participants }
     ensures is_of { IfOk result (IsOf options.now scheme.value (fields_of owner.now)) }
     ensures goes_on { IfOk result (GoesOnFrom true []) }
-    ensures on_disk { IfOk result (λ it. (loop_disk it ≡ []) × (loop_writing it ≡ None)) }
+    ensures on_disk { IfOk result (λ it. (validator_disk it ≡ []) × (validator_writing it ≡ None)) }
     ensures refused { IfErr result (λ code. code ≡ OUT_OF_MEMORY) }
 {
-    match Loop::begin(
+    match Validator::begin(
         alloc,
         scheme,
         options.ahead,
@@ -111,15 +127,15 @@ fn begun(
 fn started(
     alloc: Global,
     scheme: Rc<Signed<Caller, true>>,
-    options: &LoopOptions,
+    options: &ValidatorOptions,
     owner: &Owner,
     disk: &[u8],
-) -> Result<Looping, u8>
+) -> Result<CValidator, u8>
     requires { 1 ≤ length scheme.value.participants }
     ensures is_of { IfOk result (IsOf options.now scheme.value (fields_of owner.now)) }
     ensures goes_on { IfOk result (GoesOnFrom false disk.now) }
     ensures on_disk { IfOk result (λ it.
-        (loop_disk it ≡ disk.now) × (loop_writing it ≡ None)) }
+        (validator_disk it ≡ disk.now) × (validator_writing it ≡ None)) }
     ensures refused { IfErr result (λ code. is_one_of start_codes code ≡ true) }
     ensures not_begun { IfErr result (λ code. code ≡ NOT_BEGUN → disk.now ≡ []) }
     ensures others { IfErr result (λ code. code ≡ OTHER_OWNER
@@ -132,7 +148,7 @@ fn started(
     let Ok(bytes) = copied(alloc, disk) else {
         return Err(OUT_OF_MEMORY);
     };
-    match Loop::start(
+    match Validator::restart(
         alloc,
         scheme,
         options.ahead,
@@ -151,31 +167,31 @@ fn started(
     }
 }
 
-fn is_of_epoch(it: &Looping, epoch: Epoch) -> bool
-    ensures { MatchBool result (it.now.validator.voter.node.epoch ≡ epoch)
-        (it.now.validator.voter.node.epoch ≢ epoch) }
+fn is_of_epoch(it: &CValidator, epoch: Epoch) -> bool
+    ensures { MatchBool result (it.now.voter.node.epoch ≡ epoch)
+        (it.now.voter.node.epoch ≢ epoch) }
 {
-    it.validator.voter().epoch() == epoch
+    it.voter().epoch() == epoch
 }
 
-fn start_code_of(fault: LoopFault) -> u8
+fn start_code_of(fault: DiskFault) -> u8
     ensures code { result ≡ start_code fault }
     ensures codes { is_one_of start_codes result ≡ true }
 {
     match fault {
-        LoopFault::OutOfMemory => OUT_OF_MEMORY,
-        LoopFault::NotOpened(OpenFault::OutOfMemory) => OUT_OF_MEMORY,
-        LoopFault::NotOpened(OpenFault::NotBegun) => NOT_BEGUN,
-        LoopFault::NotOpened(OpenFault::OtherVersion) => OTHER_VERSION,
-        LoopFault::NotOpened(
+        DiskFault::OutOfMemory => OUT_OF_MEMORY,
+        DiskFault::NotOpened(OpenFault::OutOfMemory) => OUT_OF_MEMORY,
+        DiskFault::NotOpened(OpenFault::NotBegun) => NOT_BEGUN,
+        DiskFault::NotOpened(OpenFault::OtherVersion) => OTHER_VERSION,
+        DiskFault::NotOpened(
             OpenFault::OtherLengths
             | OpenFault::OtherParticipant
             | OpenFault::OtherKeys
             | OpenFault::OtherNamespace,
         ) => OTHER_OWNER,
-        LoopFault::NotOpened(OpenFault::Malformed | OpenFault::Contradiction) => DAMAGED,
-        LoopFault::NotStarted(StartFault::OutOfMemory) => OUT_OF_MEMORY,
-        LoopFault::NotStarted(StartFault::NotFinal | StartFault::Malformed | StartFault::Forged) =>
+        DiskFault::NotOpened(OpenFault::Malformed | OpenFault::Contradiction) => DAMAGED,
+        DiskFault::NotStarted(StartFault::OutOfMemory) => OUT_OF_MEMORY,
+        DiskFault::NotStarted(StartFault::NotFinal | StartFault::Malformed | StartFault::Forged) =>
             DAMAGED,
     }
 }

@@ -1,5 +1,5 @@
-//! A validator: a voter that says what is to be done next, until nothing is. And a loop: one of
-//! signatures as bytes, whose caller verifies them and writes to the disk.
+//! A validator: a voter that says what is to be done next, until nothing is. One of signatures as
+//! bytes has a caller who verifies them and writes to the disk.
 #![tactic(auto)]
 
 mod announcing;
@@ -9,7 +9,7 @@ mod concluding;
 mod decided;
 mod due;
 mod inputs;
-mod looping;
+mod next;
 mod polling;
 mod posing;
 mod presence;
@@ -22,8 +22,8 @@ mod task;
 mod unsigned;
 mod validator;
 
-pub use looping::{Loop, Next};
+pub use next::Next;
 pub use polling::{each_comes_again, poll_comes_to_an_end};
-pub use starting::LoopFault;
+pub use starting::DiskFault;
 pub use task::{PollFault, Task};
 pub use validator::Validator;

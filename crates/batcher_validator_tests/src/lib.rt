@@ -2,8 +2,8 @@
 #![tactic(auto)]
 
 #[cfg(test)]
-mod loops;
-#[cfg(test)]
 mod validators;
 #[cfg(test)]
 mod voters;
+#[cfg(test)]
+mod writes;

@@ -19,8 +19,8 @@ pub enum Lead {
     One(u32),
     /// Each leads so many in a row.
     Runs(u64),
-    /// Each third view is led by who takes no part.
-    Absent,
+    /// One, who may be faulty, leads each third view. In the other views all take turns.
+    Third(u32),
 }
 
 impl Lead {
@@ -32,8 +32,8 @@ impl Lead {
             Lead::Drawn => (mixed(seed, view) % count) as u32,
             Lead::One(it) => it,
             Lead::Runs(times) => ((view / times) % count) as u32,
-            Lead::Absent if view % 3 == 2 => participants + 7,
-            Lead::Absent => ((view / 3 * 2 + view % 3) % count) as u32,
+            Lead::Third(it) if view % 3 == 2 => it % participants,
+            Lead::Third(_) => ((view / 3 * 2 + view % 3) % count) as u32,
         }
     }
 }
@@ -256,7 +256,7 @@ impl Config {
             4 => Lead::Drawn,
             5 => Lead::One(drawn.pick(honest)),
             6 => Lead::Runs(3),
-            _ => Lead::Absent,
+            _ => Lead::Third(drawn.below(u64::from(count)) as u32),
         };
         it.ahead = drawn.pick(&[1, 2, 4, 8, 16, 16, 16]);
         it.keeps_votes = drawn.chance(300);

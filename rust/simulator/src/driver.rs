@@ -6,11 +6,11 @@ use crate::messages::{Signature, sign, verdicts};
 use crate::numbers::Numbers;
 use crate::reached::{Mark, Reached};
 use batcher::errors::{OutOfMemory, SignError, VoteError};
-use batcher::looping::{
-    KeptError, Listed, Loop, Options, PollError, Progress, Receipt, StartError, Task, Verdict,
+use batcher::positions::Round;
+use batcher::validator::{
+    KeptError, Listed, Options, PollError, Progress, Receipt, StartError, Task, Validator, Verdict,
     Wanted, Write,
 };
-use batcher::positions::Round;
 use batcher::{Epoch, Kind, Participant, Proposal, Sha256Digest, Subject, View, Vote};
 use std::cell::Cell;
 
@@ -94,7 +94,7 @@ fn options(run: &Config, epoch: u64, me: u32) -> Options<'static> {
 }
 
 pub struct Driver {
-    running: Loop<Signature>,
+    running: Validator<Signature>,
     calls: Calls,
 }
 
@@ -155,10 +155,10 @@ impl Driver {
         let options = options(run, epoch, me);
         let by = calls.as_mut().expect("they are given back");
         let running = if disk.is_empty() {
-            by.call(Mark::RefusedBegin, || Loop::begin(&options, leader))?
+            by.call(Mark::RefusedBegin, || Validator::begin(&options, leader))?
         } else {
             by.call(Mark::RefusedStart, || {
-                Loop::start(&options, leader, disk, |it| uncounted(|| verdicts(it)))
+                Validator::start(&options, leader, disk, |it| uncounted(|| verdicts(it)))
             })?
         };
         Ok(Driver {
@@ -175,7 +175,7 @@ impl Driver {
         disk: &[u8],
         proposal: &Proposal,
     ) -> bool {
-        let started = Loop::start(&options(run, epoch, me), leader, disk, verdicts);
+        let started = Validator::start(&options(run, epoch, me), leader, disk, verdicts);
         let Ok(mut running) = started else {
             return false;
         };

@@ -1,8 +1,8 @@
 //! Signatures, and what is sent.
 
 use crate::numbers::mixed;
-use batcher::looping::{Listed, Wanted};
 use batcher::positions::Round;
+use batcher::validator::{Listed, Wanted};
 use batcher::{
     Attestation, Certificate, Epoch, Participant, Proposal, Sha256Digest, Subject, View, Vote,
 };

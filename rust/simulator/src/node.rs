@@ -2,7 +2,7 @@
 
 use crate::driver::{Calls, Driver};
 use crate::messages::Signature;
-use batcher::looping::{Listed, Write};
+use batcher::validator::{Listed, Write};
 use batcher::{Kind, Subject};
 use std::collections::{BTreeMap, HashMap, HashSet, VecDeque};
 

@@ -11,7 +11,7 @@ use crate::messages::{Message, Signature, round};
 use crate::node::Node;
 use crate::numbers::{Numbers, mixed};
 use crate::reached::{Mark, Reached};
-use batcher::looping::Wanted;
+use batcher::validator::Wanted;
 use batcher::{Kind, Proposal, Subject, View};
 use faulty::Adversary;
 use std::cmp::Ordering;

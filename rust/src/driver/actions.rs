@@ -3,9 +3,9 @@
 #[cfg(doc)]
 use super::Driver;
 use super::Message;
-use crate::looping::{Cause, Life};
 use crate::messages::{Activity, Proposal, Sha256Digest, Subject};
 use crate::positions::{Participant, View};
+use crate::validator::{Cause, Life};
 use std::fmt;
 
 /// What an application is to do. Each is given once. With a later version that has another one a

@@ -1,8 +1,8 @@
 //! Why there is no driver, or it doesn't go on.
 
 use crate::errors::{Gone, NoThread, OutOfMemory, VoteError};
-use crate::looping::{PollError, StartError};
 use crate::positions::View;
+use crate::validator::{PollError, StartError};
 use std::error::Error;
 use std::fmt;
 use std::io;
@@ -27,8 +27,8 @@ pub enum DriveError<E> {
     },
     /// The leader that was named for a view takes no part.
     Leader(View),
-    /// The loop says so.
-    Loop(PollError),
+    /// The validator says so.
+    Validator(PollError),
     /// It ended before.
     Ended,
 }
@@ -46,7 +46,7 @@ impl<E: fmt::Display> fmt::Display for DriveError<E> {
                 )?;
             }
             DriveError::Leader(view) => write!(f, "the leader of view {view} takes no part")?,
-            DriveError::Loop(error) => error.fmt(f)?,
+            DriveError::Validator(error) => error.fmt(f)?,
             DriveError::Ended => f.write_str("the driver has ended")?,
         }
         f.write_str(": start the validator again by its disk")
@@ -57,7 +57,7 @@ impl<E: Error + 'static> Error for DriveError<E> {
     fn source(&self) -> Option<&(dyn Error + 'static)> {
         match self {
             DriveError::Store(error) => Some(error),
-            DriveError::Loop(error) => Some(error),
+            DriveError::Validator(error) => Some(error),
             _ => None,
         }
     }
@@ -79,7 +79,8 @@ impl<E> From<PollError> for DriveError<E> {
     fn from(error: PollError) -> Self {
         match error {
             PollError::OutOfMemory => DriveError::OutOfMemory,
-            other => DriveError::Loop(other),
+            PollError::NoLeader(view, _) => DriveError::Leader(view),
+            other => DriveError::Validator(other),
         }
     }
 }

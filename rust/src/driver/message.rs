@@ -1,9 +1,9 @@
 //! What validators send each other, and its bytes.
 
 use super::Signature;
-use crate::looping::Listed;
 use crate::messages::{Attestation, Certificate, Proposal, Sha256Digest, Subject, Vote};
 use crate::positions::{Epoch, Participant, Round, View};
+use crate::validator::Listed;
 
 /// What validators send each other.
 #[derive(Clone, Debug, PartialEq, Eq, Hash)]

@@ -3,9 +3,9 @@
 #[cfg(doc)]
 use super::{Action, Driver};
 use crate::files::Files;
-use crate::looping::Write;
 use crate::messages::{Attestation, Subject};
 use crate::positions::Participant;
+use crate::validator::Write;
 use std::fmt;
 use std::io;
 

@@ -1,7 +1,7 @@
 //! What tests of validators share.
 
 use crate::toy::{Signature, attests};
-use batcher::looping::{Options, Wanted, Write};
+use batcher::validator::{Options, Wanted, Write};
 use batcher::{Epoch, Participant};
 use std::fs;
 use std::path::{Path, PathBuf};

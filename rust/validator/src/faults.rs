@@ -1,7 +1,7 @@
 //! What validators do wrong, where they do.
 
 use crate::messages::Message;
-use crate::validator::Validator;
+use crate::validator::Member;
 use batcher::{Certificate, Participant, Proposal, Sha256Digest, Subject};
 use std::thread::sleep;
 use std::time::Duration;
@@ -33,7 +33,7 @@ impl Fault {
     }
 
     /// Sends a message as who has this fault does.
-    pub fn send(self, validator: &Validator, message: Message) {
+    pub fn send(self, validator: &Member, message: Message) {
         match (self, &message) {
             (Fault::Slow, _) => sleep(Duration::from_millis(5)),
             (Fault::Equivocates, Message::Vote(Subject::Notarize { proposal }, _)) => {

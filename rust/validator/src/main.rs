@@ -22,7 +22,7 @@ use std::error::Error;
 use std::path::Path;
 use std::process::ExitCode;
 use transport::Peers;
-use validator::{Station, Validator};
+use validator::{Member, Station};
 
 fn main() -> ExitCode {
     sodium::init();
@@ -72,5 +72,5 @@ fn one(index: &str, folder: &Path, ports: &[String]) -> Result<(), Box<dyn Error
         peers,
         record,
     };
-    Validator::new(station, files)?.run(&inbox)
+    Member::new(station, files)?.run(&inbox)
 }

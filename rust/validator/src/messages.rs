@@ -2,8 +2,8 @@
 
 use crate::sodium::Signature;
 use crate::transport::Wire;
-use batcher::looping::Listed;
 use batcher::positions::Round;
+use batcher::validator::Listed;
 use batcher::{Certificate, Epoch, Kind, Participant, Proposal, Sha256Digest, Subject, View};
 
 #[derive(Clone)]

@@ -1,6 +1,6 @@
 //! What validators note, by which the network sees whether all is as it should be.
 
-use batcher::looping::Cause;
+use batcher::validator::Cause;
 use batcher::{Participant, Proposal, Subject};
 use std::collections::{BTreeMap, BTreeSet};
 use std::fs::{File, OpenOptions, read_to_string};

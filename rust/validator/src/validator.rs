@@ -1,11 +1,11 @@
-//! One validator: what comes goes into its loop, and what that gives is done.
+//! A member of the network: what comes goes into its validator, and what that gives is done.
 
 use crate::faults::Fault;
 use crate::messages::Message;
 use crate::record::Record;
 use crate::sodium::{KeyPair, PublicKey, Signature, sha256, verify};
 use crate::transport::{Inbox, Peers};
-use batcher::looping::{Loop, Options, Task, Wanted, timeout};
+use batcher::validator::{Options, Task, Validator, Wanted, timeout};
 use batcher::{Attestation, Epoch, Files, Opened, Participant, Sha256Digest, Subject, View, Vote};
 use std::error::Error;
 use std::sync::mpsc::RecvTimeoutError;
@@ -27,16 +27,16 @@ pub struct Station {
     pub record: Record,
 }
 
-pub struct Validator {
+pub struct Member {
     pub station: Station,
-    running: Loop<Signature>,
+    running: Validator<Signature>,
     disk: Files,
     view: View,
     last: View,
     deadline: Instant,
 }
 
-impl Validator {
+impl Member {
     /// The validator that goes on by what its files have. Files that were created for it and have
     /// nothing yet show that nothing was signed, so it begins.
     pub fn new(station: Station, files: Opened) -> Outcome<Self> {
@@ -53,7 +53,7 @@ impl Validator {
         let leader = move |view: View| Participant::new((view.get() % u64::from(count)) as u32);
         let verify = |wanted: &_| verdicts(&station.participants, wanted);
         let (running, disk) = files.start(&options, leader, verify)?;
-        Ok(Validator {
+        Ok(Member {
             station,
             running,
             disk,

@@ -4,7 +4,7 @@ use super::{Event, World};
 use crate::driver::{Driver, Fault, Kept};
 use crate::messages::{Message, Signature, number_of, round, sign, signature_in};
 use crate::reached::Mark;
-use batcher::looping::Listed;
+use batcher::validator::Listed;
 use batcher::{Kind, Proposal, Subject, View, Vote};
 use std::rc::Rc;
 

@@ -7,7 +7,7 @@ use crate::messages::{Message, Signature, number_of};
 use crate::node::Given;
 use crate::numbers::mixed;
 use crate::reached::Mark;
-use batcher::looping::{Task, Wanted, Write};
+use batcher::validator::{Task, Wanted, Write};
 use batcher::{Kind, Sha256Digest, Subject, View};
 
 impl World {

@@ -1,4 +1,4 @@
-use Rattle.batcher_ffi.proofs.Words.{arith, ◌∙◌, Ok, ap, length, refl, rules, sym, true≢false, option_map}
+use Rattle.batcher_ffi.proofs.Words.{arith, ◌∙◌, ap, length, refl, rules, sym, true≢false, option_map}
 use Rattle.batcher_ffi.proofs.Quorums.{round_makes_quorum}
 use Rattle.batcher_ffi.proofs.Verified.{none_left, not_short, same_self, some_left}
 use Rattle.batcher_ffi.proofs.rounds.try_construct.Goals as goal

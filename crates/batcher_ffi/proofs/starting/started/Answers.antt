@@ -8,7 +8,7 @@ returns-in-Err-clause-others c = λ other.
     (sym c.start_code_of.ensures.code ∙ other)
     (λ one same. subst (λ disk. Cause (vote_format signature_format sha256_format) disk
     (fields_of c.args.owner.now) same_digest one) c.in-Ok.ensures.copied
-    (c.start.ensures.cause one (c.in-Err.is ∙ ap (λ fault. Err fault) same))))
+    (c.restart.ensures.cause one (c.in-Err.is ∙ ap (λ fault. Err fault) same))))
 
 pub returns-in-Err-clause-other_version : goal.returns-in-Err-clause-other_version
 returns-in-Err-clause-other_version c = λ is.
@@ -16,7 +16,7 @@ returns-in-Err-clause-other_version c = λ is.
     (sym c.start_code_of.ensures.code ∙ is)
     (λ one same. subst (λ disk. Cause (vote_format signature_format sha256_format) disk
     (fields_of c.args.owner.now) same_digest one) c.in-Ok.ensures.copied
-    (c.start.ensures.cause one (c.in-Err.is ∙ ap (λ fault. Err fault) same)))
+    (c.restart.ensures.cause one (c.in-Err.is ∙ ap (λ fault. Err fault) same)))
 
 pub returns-in-Err-clause-damaged : goal.returns-in-Err-clause-damaged
 returns-in-Err-clause-damaged c = λ is.
@@ -24,6 +24,6 @@ returns-in-Err-clause-damaged c = λ is.
     (sym c.start_code_of.ensures.code ∙ is)
     (λ one same. subst (λ disk. Cause (vote_format signature_format sha256_format) disk
     (fields_of c.args.owner.now) same_digest one) c.in-Ok.ensures.copied
-    (c.start.ensures.cause one (c.in-Err.is ∙ ap (λ fault. Err fault) same)))
+    (c.restart.ensures.cause one (c.in-Err.is ∙ ap (λ fault. Err fault) same)))
     (λ one same. subst (λ disk. HasNoVoter (fields_of c.args.owner.now) disk one) c.in-Ok.ensures.copied
-    (c.start.ensures.why one (c.in-Err.is ∙ ap (λ fault. Err fault) same)))
+    (c.restart.ensures.why one (c.in-Err.is ∙ ap (λ fault. Err fault) same)))

@@ -1,6 +1,0 @@
-use Rattle.batcher_validator.proofs.Words.{log_of, refl}
-use Rattle.batcher_validator.proofs.looping.Loop.leaves_what_was_done.Goals as goal
-
-pub returns : goal.returns
-returns g c = λ opened past earlier is.
-    c.leaves_what_was_done.ensures (log_of c.args.self.now.validator) opened tt refl past earlier is
