@@ -305,6 +305,35 @@ impl Config {
         }
     }
 
+    /// Runs of so long by which the pace is measured: with nobody faulty, with one who is stopped, and
+    /// with one whom all block for what it sends.
+    pub fn paces(seed: u64, span: u64) -> [(&'static str, Self); 3] {
+        // The measure ends where the network becomes quiet.
+        let all = Config {
+            quiet: span,
+            ..Config::plain(seed, 4)
+        };
+        let stopped = Config {
+            faulty: vec![3],
+            ..all.clone()
+        };
+        let blocked = Config {
+            faults: Faults {
+                follows: [1000; 3],
+                contrary: 1000,
+                proposes: vec![Proposes::Plainly],
+                quits: false,
+                ..Faults::silent()
+            },
+            ..stopped.clone()
+        };
+        [
+            ("all four", all),
+            ("one stopped", stopped),
+            ("one blocked", blocked),
+        ]
+    }
+
     pub fn leader(&self, view: u64) -> u32 {
         self.lead.leader(self.seed, self.count, view)
     }

@@ -1,7 +1,9 @@
 //! Networks of validators over the crate batcher, in virtual time: a seed is a run. Some validators
 //! are faulty, messages are lost and late, validators crash at any point, their disks, signers, judges
 //! and verifiers take their time, and memory is refused. Behind each event it is looked at whether all
-//! honest ones keep what is promised of them, and whether they go on once the network is quiet.
+//! honest ones keep what is promised of them, and whether they go on once the network is quiet. Where
+//! no preset is named, it is also measured how many proposals are final with one of four stopped, or
+//! blocked by all, beside those of all four.
 //! usage: simulator FIRST COUNT [PRESET..]
 //!        simulator list
 
@@ -14,7 +16,7 @@ mod numbers;
 mod reached;
 mod world;
 
-use config::{Config, PRESETS, Preset, SMALLER};
+use config::{Config, PRESETS, Preset, SMALLER, TIMEOUT};
 use memory::Refusing;
 use reached::{Mark, Reached};
 use std::panic::{AssertUnwindSafe, catch_unwind, set_hook};
@@ -34,29 +36,38 @@ const LONGEST: Duration = Duration::from_secs(20);
 /// So many runs of a preset needn't come to anything.
 const FEW: u64 = 100;
 
+/// So long is a run by which the pace is measured, and of so many seeds.
+const SPAN: u64 = 100 * TIMEOUT;
+const PACES: u64 = 8;
+
 /// What came of a run.
 struct Outcome {
     failed: Option<String>,
     reached: Reached,
 }
 
+/// What comes of something, or with what it panicked.
+fn caught<T>(act: impl FnOnce() -> T) -> Result<T, String> {
+    catch_unwind(AssertUnwindSafe(act)).map_err(|panic| {
+        memory::grant_all();
+        let text = panic.downcast_ref::<String>().map(String::as_str);
+        let text = text.or(panic.downcast_ref::<&str>().copied());
+        format!("PANIC: {}", text.unwrap_or_default())
+    })
+}
+
 fn play(run: &Config) -> Outcome {
-    let played = catch_unwind(AssertUnwindSafe(|| {
+    let played = caught(|| {
         let mut world = World::new(run.clone());
         let failed = world.play();
         Outcome {
             failed,
             reached: world.reached,
         }
-    }));
-    played.unwrap_or_else(|panic| {
-        memory::grant_all();
-        let text = panic.downcast_ref::<String>().map(String::as_str);
-        let text = text.or(panic.downcast_ref::<&str>().copied());
-        Outcome {
-            failed: Some(format!("PANIC: {}", text.unwrap_or_default())),
-            reached: Reached::none(),
-        }
+    });
+    played.unwrap_or_else(|why| Outcome {
+        failed: Some(why),
+        reached: Reached::none(),
     })
 }
 
@@ -201,6 +212,54 @@ fn look_at(preset: &Preset, first: u64, count: u64) -> (u64, u64) {
     (passed, failed)
 }
 
+/// How many proposals are final in the end of a run, whether somebody faulty is blocked by all
+/// others, and how often a view is given up for its leader.
+fn pace(run: Config) -> Result<(u64, bool, u64), String> {
+    caught(|| {
+        let honest = run.honest().len() as u64;
+        let mut world = World::new(run);
+        let chain = world.pace()?;
+        let blocked = world.reached.times(Mark::BlockedFaulty);
+        Ok((chain, blocked == honest, world.reached.times(Mark::GaveUp)))
+    })?
+}
+
+/// Says how many proposals are final in the same time with nobody faulty, with one who is stopped, and
+/// with one whom all block, and counts whether these are half as many at least.
+fn look_at_paces(first: u64) -> (u64, u64) {
+    let (mut finals, mut failed) = ([0; 3], Vec::new());
+    for seed in (0..PACES).map(|it| first.wrapping_add(it)) {
+        let runs = Config::paces(seed, SPAN).into_iter().enumerate();
+        for (place, (name, run)) in runs {
+            match pace(run) {
+                Ok((chain, is_blocked, gave_up)) => {
+                    finals[place] += chain;
+                    if is_blocked != (place == 2) || (gave_up > 0) != (place > 0) {
+                        failed.push(format!(
+                            "pace of {name}, seed {seed}: the run isn't what it says"
+                        ));
+                    }
+                }
+                Err(why) => failed.push(format!("pace of {name}, seed {seed}: {why}")),
+            }
+        }
+    }
+    let [all, stopped, blocked] = finals;
+    let ratio = |it: u64| it as f64 / all.max(1) as f64;
+    println!(
+        "pace: {all} proposals are final of all four; with one stopped {stopped}, {:.2} times as \
+         many; with one blocked {blocked}, {:.2} times",
+        ratio(stopped),
+        ratio(blocked),
+    );
+    failed.iter().for_each(|why| println!("simulate: {why}"));
+    // With all four a view takes much less than a timeout.
+    let is_slow = all < PACES * SPAN / TIMEOUT;
+    let wrong =
+        [stopped, blocked].map(|it| u64::from(!failed.is_empty() || is_slow || 2 * it < all));
+    (2 - wrong[0] - wrong[1], wrong[0] + wrong[1])
+}
+
 fn main() -> ExitCode {
     let words: Vec<String> = std::env::args().skip(1).collect();
     let (first, count, names) = match &words[..] {
@@ -228,6 +287,11 @@ fn main() -> ExitCode {
             passed += counted.0;
             failed += counted.1;
         }
+    }
+    if names.is_empty() {
+        let counted = look_at_paces(first);
+        passed += counted.0;
+        failed += counted.1;
     }
     println!("{passed} passed, {failed} failed");
     if failed == 0 {

@@ -358,6 +358,43 @@ impl World {
             .all(|it| it.driver.is_some() && it.epoch == epoch && it.last >= wanted)
     }
 
+    /// How many proposals are in the chain that is final by the time the network becomes quiet, or what
+    /// went wrong before.
+    pub fn pace(&mut self) -> Result<u64, String> {
+        while let Some(it) = self.planned.pop() {
+            if it.time >= self.run.quiet || self.failed.is_some() {
+                break;
+            }
+            self.now = it.time;
+            self.handle(it.event);
+            self.count_event();
+        }
+        match &self.failed {
+            Some(failed) => Err(failed.clone()),
+            None => Ok(self.chain()),
+        }
+    }
+
+    /// How many proposals are in the chain of the last one that is final.
+    fn chain(&self) -> u64 {
+        let (mut count, mut last) = (0, self.finals.last_key_value().map(|it| it.1));
+        while let Some(proposal) = last {
+            let parent = (proposal.round.epoch.get(), proposal.parent.get());
+            count += 1;
+            last = self.notarized.get(&parent);
+        }
+        count
+    }
+
+    fn count_event(&mut self) {
+        self.reached.note(Mark::Event);
+        let events = self.reached.times(Mark::Event);
+        if events > self.run.most_events {
+            let far = self.far();
+            self.fail(format!("TOO LONG: {events} events{far}"));
+        }
+    }
+
     /// Plays it to its end. None is well.
     pub fn play(&mut self) -> Option<String> {
         let patience = match (self.run.agrees, self.run.doubles) {
@@ -374,15 +411,11 @@ impl World {
                 break;
             }
             self.handle(it.event);
-            self.reached.note(Mark::Event);
+            self.count_event();
             let events = self.reached.times(Mark::Event);
             if events % 32 == 0 && self.is_quiet() && self.run.agrees && self.has_settled() {
                 settled = true;
                 break;
-            }
-            if events > self.run.most_events {
-                let far = self.far();
-                self.fail(format!("TOO LONG: {events} events{far}"));
             }
         }
         if self.run.agrees && !settled && self.failed.is_none() {
