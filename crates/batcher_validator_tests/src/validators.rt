@@ -26,6 +26,12 @@ type TestTask = Task<[u8; 32], Digest>;
 
 type TestAttestation = Attestation<[u8; 32]>;
 
+type TestCertificate = Certificate<AttestationList, Digest>;
+
+type TestReceipt = Receipt<Verdict>;
+
+type TestVote = Vote<[u8; 32], Digest>;
+
 const EPOCH: Epoch = Epoch(5);
 
 // The participant that votes alone. Three of four are a quorum.
@@ -231,15 +237,88 @@ impl Station {
     // A participant's vote comes from it.
     fn hear(&mut self, signer: u32, subject: Subject<Digest>) -> Result<(), Fail> {
         let vote = Vote::new(subject, self.scheme.sign(Participant(signer), subject));
-        let _ = self.validator.receive_vote(Name(u64::from(signer)), vote)?;
+        self.receive_vote(signer, vote)
+    }
+
+    fn receive_vote(&mut self, peer: u32, vote: TestVote) -> Result<(), Fail> {
+        let _ = self.validator.receive_vote(Name(u64::from(peer)), vote)?;
         Ok(())
+    }
+
+    fn lends(&self) -> bool {
+        self.validator.next_attempt().is_some()
+    }
+
+    // What waits is verified. It says whether a construction was made.
+    fn construct(&mut self) -> Result<bool, Fail> {
+        Ok(self.validator.try_construct(&mut self.rng)?)
+    }
+
+    fn judge(&mut self, proposal: &Proposal<Digest>, valid: bool) {
+        self.validator.judge(proposal, valid);
+    }
+
+    fn propose(&mut self, view: View, parent: View) {
+        self.validator.propose(view, parent, Sha256Digest([1; 32]));
+    }
+
+    fn expire(&mut self, view: u64) {
+        self.validator.expire(View(view));
+    }
+
+    fn send_again(&mut self) {
+        self.validator.send_again();
+    }
+
+    // It enters the view with this leader. It says whether it could.
+    fn enters(&mut self, view: View, leader: u32) -> bool {
+        self.validator.enter(view, Participant(leader)).is_ok()
+    }
+
+    // A peer sends a certificate of the window, and one from beyond it.
+    fn receive(&mut self, peer: u32, certificate: TestCertificate) -> Result<TestReceipt, Fail> {
+        let key = Name(u64::from(peer));
+        Ok(self.validator.receive_certificate(key, certificate)?)
+    }
+
+    fn catch_up(
+        &mut self,
+        peer: u32,
+        certificate: TestCertificate,
+    ) -> Result<Receipt<Ahead>, Fail> {
+        let key = Name(u64::from(peer));
+        Ok(self.validator.catch_up(key, certificate)?)
+    }
+
+    fn is_heard(&self, peer: u32) -> bool {
+        self.validator
+            .voter()
+            .node()
+            .is_heard(&Name(u64::from(peer)))
+    }
+
+    // How many certificates it keeps.
+    fn kept(&self) -> usize {
+        self.validator.certificates().len()
+    }
+
+    // The certificate that it keeps of the kind and the round, copied.
+    fn copied(&self, kind: Kind, round: Round) -> Result<Option<TestCertificate>, Fail> {
+        match self.validator.certificate(kind, round) {
+            Some(it) => Ok(Some(it.clone()?)),
+            None => Ok(None),
+        }
+    }
+
+    fn looks_at(&self, view: u64) -> bool {
+        self.validator.voter().node().window().contains(view)
     }
 
     fn certificate(
         &self,
         alloc: Global,
         subject: Subject<Digest>,
-    ) -> Result<Certificate<AttestationList, Digest>, Fail> {
+    ) -> Result<TestCertificate, Fail> {
         let mut attestations = Vec::new(alloc);
         for signer in 0..3u32 {
             let attestation: Attestation<[u8; 32]> = self.scheme.sign(Participant(signer), subject);
@@ -271,27 +350,22 @@ fn play(station: &mut Station, rt: &impl Abort) -> Result<(), Fail> {
     // Votes are given to be verified once, until they are.
     station.gives(rt, Task::Verify);
     station.rests(rt);
-    assert!(rt; station.validator.try_construct(&mut station.rng)?);
+    assert!(rt; station.construct()?);
     station.rests(rt);
     // What the leader proposes is given to be judged once, and notarized where it is valid.
     station.hear(0, notarize(1, 0))?;
     station.gives(rt, Task::Judge(proposal(1, 0)));
     station.gives(rt, Task::Verify);
     station.rests(rt);
-    station.validator.judge(&proposal(1, 0), true);
+    station.judge(&proposal(1, 0), true);
     station.sign(rt, notarize(1, 0));
     station.rests(rt);
     station.hear(1, notarize(1, 0))?;
-    assert!(rt; station.validator.try_construct(&mut station.rng)?);
+    assert!(rt; station.construct()?);
     station.enter(rt, 2);
     station.gives(rt, Task::SendCertificate(Kind::Notarization, at(1)));
     station.gives(rt, Task::Forward(at(1)));
-    assert!(rt;
-        station
-            .validator
-            .certificate(Kind::Notarization, at(1))
-            .is_some()
-    );
+    assert!(rt; station.copied(Kind::Notarization, at(1))?.is_some());
     // What is notarized is finalized.
     station.sign(rt, finalize(1, 0));
     station.hear(0, finalize(1, 0))?;
@@ -300,7 +374,7 @@ fn play(station: &mut Station, rt: &impl Abort) -> Result<(), Fail> {
     // What is final comes before what is to be sent.
     station.gives(rt, Task::Final(proposal(1, 0)));
     station.gives(rt, Task::SendCertificate(Kind::Finalization, at(1)));
-    assert_eq!(rt; station.validator.certificates().len(), 2);
+    assert_eq!(rt; station.kept(), 2);
     station.verify_all(rt)?;
     // A peer that contradicts itself is to be blocked, and once.
     station.hear(2, notarize(2, 1))?;
@@ -309,16 +383,16 @@ fn play(station: &mut Station, rt: &impl Abort) -> Result<(), Fail> {
     let reason = BlockReason::FinalizeAfterNullify;
     station.gives(rt, Task::Block(Participant(2), Cause::Vote(reason)));
     // A view whose time is over is given up, and nothing more is judged there.
-    station.validator.expire(View(3));
+    station.expire(3);
     station.gives(rt, Task::Verify);
     station.rests(rt);
-    station.validator.expire(View(2));
+    station.expire(2);
     station.sign(rt, nullify(2));
     station.hear(0, notarize(2, 1))?;
     station.rests(rt);
     // Own votes of the current view are given again, when that is asked for, and the newest
     // certificates.
-    station.validator.send_again();
+    station.send_again();
     station.sends_again(rt, nullify(2));
     station.gives(rt, Task::SendCertificate(Kind::Notarization, at(1)));
     station.gives(rt, Task::Forward(at(1)));
@@ -360,7 +434,7 @@ fn conclude(station: &mut Station, rt: &impl Abort, alloc: Global) -> Result<(),
     station.hear(0, nullify(1))?;
     station.hear(1, nullify(1))?;
     // Two of four are no quorum: nothing is lent, and the view rests.
-    assert!(rt; station.validator.next_attempt().is_none());
+    assert!(rt; !station.lends());
     assert!(rt; station.verify(rt)?);
     station.rests(rt);
     station.hear(2, nullify(1))?;
@@ -395,13 +469,9 @@ fn lead(station: &mut Station, rt: &impl Abort) -> Result<(), Fail> {
     station.gives(rt, Task::Verify);
     station.rests(rt);
     // It is asked once. A payload for a view that it isn't in yet is dropped.
-    station
-        .validator
-        .propose(View(2), View(1), Sha256Digest([1; 32]));
+    station.propose(View(2), View(1));
     station.rests(rt);
-    station
-        .validator
-        .propose(View(1), View(0), Sha256Digest([1; 32]));
+    station.propose(View(1), View(0));
     station.sign(rt, notarize(1, 0));
     station.rests(rt);
     Ok(())
@@ -420,27 +490,21 @@ fn who_fell_behind_catches_up(rt: HostRuntime) -> Result<(), Fail> {
 
 fn catch_up(station: &mut Station, rt: &impl Abort, alloc: Global) -> Result<(), Fail> {
     let far = station.certificate(alloc, finalize(90, 1))?;
-    assert_eq!(rt; station.validator.catch_up(Name(0), far)?, CERTIFIED);
+    assert_eq!(rt; station.catch_up(0, far)?, CERTIFIED);
     station.gives(rt, Task::Final(proposal(90, 1)));
     station.enter(rt, 91);
     station.gives(rt, Task::SendCertificate(Kind::Finalization, at(90)));
     // One that is before the final view isn't looked at, nor one of the window.
     let passed = station.certificate(alloc, finalize(89, 1))?;
-    assert_eq!(rt;
-        station.validator.catch_up(Name(0), passed)?,
-        Receipt::Outside
-    );
+    assert_eq!(rt; station.catch_up(0, passed)?, Receipt::Outside);
     let near = station.certificate(alloc, finalize(91, 1))?;
-    assert_eq!(rt;
-        station.validator.catch_up(Name(0), near)?,
-        Receipt::Outside
-    );
-    assert_eq!(rt; station.validator.certificates().len(), 1);
+    assert_eq!(rt; station.catch_up(0, near)?, Receipt::Outside);
+    assert_eq!(rt; station.kept(), 1);
     station.gives(rt, Task::Verify);
     station.rests(rt);
     // A certificate of the window is handed in with its sender.
     let known = station.certificate(alloc, notarize(91, 90))?;
-    match station.validator.receive_certificate(Name(0), known)? {
+    match station.receive(0, known)? {
         Receipt::Answered(Verdict::Recorded(_)) => {}
         _ => panic!(rt; "the certificate isn't recorded"),
     }
@@ -451,20 +515,20 @@ fn catch_up(station: &mut Station, rt: &impl Abort, alloc: Global) -> Result<(),
     station.rests(rt);
     // Who forges one from beyond the window is blocked, once, and nothing else of it is looked at.
     let forged = Certificate::new(finalize(195, 0), AttestationList::new(Vec::new(alloc)));
-    let heard = station.validator.catch_up(Name(1), forged)?;
+    let heard = station.catch_up(1, forged)?;
     assert_eq!(rt; heard, Receipt::Answered(Ahead::Forged));
-    assert!(rt; !station.validator.voter().node().is_heard(&Name(1)));
+    assert!(rt; !station.is_heard(1));
     station.gives(rt, Task::Block(Participant(1), Cause::Certificate));
     station.rests(rt);
     let far = station.certificate(alloc, finalize(195, 1))?;
-    assert_eq!(rt; station.validator.catch_up(Name(1), far)?, Receipt::Dropped);
+    assert_eq!(rt; station.catch_up(1, far)?, Receipt::Dropped);
     let far = station.certificate(alloc, finalize(195, 1))?;
-    assert_eq!(rt; station.validator.catch_up(Name(4), far)?, Receipt::Unknown);
+    assert_eq!(rt; station.catch_up(4, far)?, Receipt::Unknown);
     // Its sender isn't blocked.
     let far = station.certificate(alloc, finalize(195, 1))?;
-    assert_eq!(rt; station.validator.catch_up(Name(2), far)?, CERTIFIED);
+    assert_eq!(rt; station.catch_up(2, far)?, CERTIFIED);
     station.gives(rt, Task::Final(proposal(195, 1)));
-    assert!(rt; station.validator.voter().node().is_heard(&Name(2)));
+    assert!(rt; station.is_heard(2));
     Ok(())
 }
 
@@ -494,7 +558,7 @@ fn give_up(station: &mut Station, rt: &impl Abort, alloc: Global) -> Result<(), 
     assert!(rt; !gives_up(station, rt, 12, 0)?);
     nullified(station, alloc, 12, 1)?;
     let forged = Certificate::new(nullify(13), AttestationList::new(Vec::new(alloc)));
-    let heard = station.validator.receive_certificate(Name(2), forged)?;
+    let heard = station.receive(2, forged)?;
     assert_eq!(rt; heard, Receipt::Answered(Verdict::Forged));
     assert!(rt; gives_up(station, rt, 13, 2)?);
     Ok(())
@@ -507,19 +571,17 @@ fn gives_up(station: &mut Station, rt: &impl Abort, view: u64, leader: u32) -> R
         match station.poll() {
             Ok(Some(Task::Enter(next))) => {
                 assert_eq!(rt; next, View(view));
-                assert!(rt; station.validator.enter(next, Participant(leader)).is_ok());
+                assert!(rt; station.enters(next, leader));
             }
             Ok(Some(Task::Verify)) => {
-                let _ = station.validator.try_construct(&mut station.rng)?;
+                let _ = station.construct()?;
             }
             Ok(Some(Task::Sign(subject))) => {
                 let is_nullify = subject.is_same(&nullify(view));
                 assert!(rt; is_nullify);
                 is_over = true;
-                let signature = station.scheme.sign(Participant(ME), subject);
-                match station.validator.cast(Vote::new(subject, signature)) {
-                    Ok(_) => {}
-                    Err(_) => return Err(Fail::new("the vote isn't cast")),
+                if !station.try_cast(subject) {
+                    return Err(Fail::new("the vote isn't cast"));
                 }
             }
             Ok(Some(_)) => {}
@@ -533,16 +595,15 @@ fn gives_up(station: &mut Station, rt: &impl Abort, view: u64, leader: u32) -> R
 // A participant sends a nullification of a view.
 fn nullified(station: &mut Station, alloc: Global, view: u64, sender: u32) -> Result<(), Fail> {
     let certificate = station.certificate(alloc, nullify(view))?;
-    let key = Name(u64::from(sender));
-    let _ = station.validator.receive_certificate(key, certificate)?;
+    let _ = station.receive(sender, certificate)?;
     Ok(())
 }
 
 // What a validator sends to all others.
 #[derive(Drop)]
 enum Message {
-    Vote(Vote<[u8; 32], Digest>),
-    Certificate(Certificate<AttestationList, Digest>),
+    Vote(TestVote),
+    Certificate(TestCertificate),
 }
 
 // A validator in a network, which does what is to be done.
@@ -621,27 +682,24 @@ impl Member {
             // Nobody has a payload.
             Task::Forward(_) => {}
             Task::SendCertificate(kind, round) => {
-                if let Some(it) = self.station.validator.certificate(kind, round) {
-                    self.outbox.push(Message::Certificate(it.clone()?))?;
+                if let Some(it) = self.station.copied(kind, round)? {
+                    self.outbox.push(Message::Certificate(it))?;
                 }
             }
             Task::Enter(view) => {
-                let leader = Participant((view.0 % 4) as u32);
-                assert!(rt; self.station.validator.enter(view, leader).is_ok());
+                assert!(rt; self.station.enters(view, (view.0 % 4) as u32));
                 self.view = view.0;
                 self.waits = 0;
             }
             Task::Verify => {
-                let _ = self.station.validator.try_construct(&mut self.station.rng)?;
+                let _ = self.station.construct()?;
             }
             Task::Cast(vote) => assert!(rt; self.station.try_cast(vote.subject())),
             Task::Sign(subject) => assert!(rt; self.station.try_cast(subject)),
             Task::Propose { view, parent } => {
-                self.station
-                    .validator
-                    .propose(view, parent, Sha256Digest([1; 32]));
+                self.station.propose(view, parent);
             }
-            Task::Judge(proposal) => self.station.validator.judge(&proposal, true),
+            Task::Judge(proposal) => self.station.judge(&proposal, true),
         }
         Ok(())
     }
@@ -650,31 +708,23 @@ impl Member {
     fn wait(&mut self) {
         self.waits = self.waits.saturating_add(1);
         if self.waits % 4 == 0 {
-            self.station.validator.expire(View(self.view));
-            self.station.validator.send_again();
+            self.station.expire(self.view);
+            self.station.send_again();
         }
     }
 
     fn hear(&mut self, peer: u32, message: &Message) -> Result<(), Fail> {
-        let key = Name(u64::from(peer));
         match message {
             Message::Vote(vote) => {
-                let _ = self.station.validator.receive_vote(key, *vote)?;
+                self.station.receive_vote(peer, *vote)?;
             }
             Message::Certificate(certificate) => {
                 let copy = certificate.clone()?;
                 let view = copy.round().view.0;
-                if self
-                    .station
-                    .validator
-                    .voter()
-                    .node()
-                    .window()
-                    .contains(view)
-                {
-                    let _ = self.station.validator.receive_certificate(key, copy)?;
+                if self.station.looks_at(view) {
+                    let _ = self.station.receive(peer, copy)?;
                 } else {
-                    let _ = self.station.validator.catch_up(key, copy)?;
+                    let _ = self.station.catch_up(peer, copy)?;
                 }
             }
         }
