@@ -4,4 +4,5 @@ pub mod Voting
 mod Certifying
 mod Agreeing
 mod Living
+mod Cutting
 mod Worked

@@ -3,6 +3,8 @@ use Rattle.batcher_agreement.proofs.Words.{◌≡◌, ℕ, zero, suc, true, fals
 use Rattle.batcher_agreement.proofs.Words.{finalization, listing, notarization, p, subject_certified, Certificate, Subject, Finalize, Notarize, Nullify}
 use Rattle.batcher_agreement.proofs.Words.{AreNamed, of_four, AgreementExamples, asked, did, is_zero, HasHeld, node_history, IsHonest, Conduct, HasVoted}
 use Rattle.batcher_agreement.proofs.Words.{KeepsPolicy, learned, voted}
+use Rattle.batcher_agreement.specs.Cuts.{KeepPolicyByDisk, all_done_in}
+use Rattle.batcher_agreement.specs.Examples.{two_lives}
 use Rattle.batcher.specs.Keys.{index_of}
 
 -- The honest are 1, 2 and 3.
@@ -69,9 +71,20 @@ voted_either : (s : Subject ℕ) → (s ≡ finalized) ⊎ (s ≡ notarized) →
 voted_either s (inl e) = inl (sym e)
 voted_either s (inr e) = inr (inl (sym e))
 
+kept : KeepPolicyByDisk two_lives
+kept = (
+  (record { notarized = inl refl; not_nullified = λ h. h }, tt),
+  ((λ p same h. h, tt), tt),
+)
+
+not_by_all : KeepsPolicy (all_done_in two_lives) → ⊥
+not_by_all keeps = keeps.0.not_nullified (inl refl)
+
 pub computed : AgreementExamples
 unfolding index_of
 computed = record {
+  kept_by_disk = kept;
+  not_by_all = not_by_all;
   few_faulty = record { some = omega arith; few = omega arith };
   answered_rightly = each (λ i. AreNamed of_four (node_history (asked i))) (
       (refl, ((refl, (refl, refl)), (refl, ((refl, (refl, refl)), ((omega arith, refl), (refl, tt))))))

@@ -1,4 +1,5 @@
 pub mod Policy
+pub mod Cuts
 pub mod Participants
 pub mod Agreement
 pub mod Lives

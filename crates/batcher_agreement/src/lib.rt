@@ -2,6 +2,7 @@
 //! restarts. And what it takes that two nodes construct certificates which contradict each other.
 #![tactic(auto)]
 
+mod cuts;
 mod forks;
 
 ghost use Rattle.std.specs.Prelude.{Bool, List, ℕ};
@@ -15,6 +16,7 @@ use batcher::messages::Digest;
 use batcher::scheme::Scheme;
 use batcher_evidence::Accountable;
 use batcher_node::{NodeConfigs, senders_of_votes_to_send_are_never_blocked};
+pub use cuts::lives_keep_the_policy_by_their_disks;
 pub use forks::nodes_fork_by_contradicting_votes;
 
 /// Does nothing. Where fewer than a third of the participants are faulty, and each other one votes
@@ -51,8 +53,9 @@ pub fn honest_voters_agree_unless_forged<S: Accountable<D>, D: Digest>()
     honest_voters_agree::<S, D>()
 }
 
-/// Does nothing. Its contract is a worked example: four participants, of whom one is faulty, that
-/// keep the policy, and whose certificates are backed, with a proposal that is final.
+/// Does nothing. Its contract has worked examples: four participants, of whom one is faulty, that
+/// keep the policy, and whose certificates are backed, with a proposal that is final; and two lives
+/// of a participant, of which the first loses a vote by a crash.
 pub fn worked_examples()
     ensures { AgreementExamples }
 {}
