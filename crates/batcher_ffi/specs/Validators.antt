@@ -11,7 +11,6 @@ use Rattle.batcher.specs.Meaning.{Meaning}
 use Rattle.batcher.specs.RoundContracts.{round_config}
 use Rattle.batcher.specs.RoundState.{RoundView}
 use Rattle.batcher.specs.Config.{Config}
-use Rattle.batcher.specs.calls.Call.TheVariants.{Network as NetworkCall}
 use Rattle.batcher.specs.answers.Admission.{Admission}
 use Rattle.batcher_types.specs.Votes.{attestation_of, round_in}
 use Rattle.batcher_types.specs.Votes.{subject_certified, content_of, subject_of}
@@ -58,9 +57,9 @@ use Rattle.batcher_validator.specs.declared.starting.DiskFault.{DiskFault}
 use Rattle.batcher_validator.specs.declared.starting.DiskFault.TheVariants.{NotOpened, NotStarted}
 use Rattle.batcher_validator.specs.declared.starting.DiskFault.TheVariants.{OutOfMemory as NoMemoryToStart}
 use Rattle.batcher_node.specs.Events.{certificate_came, peer_in, vote_came}
-use Rattle.batcher_node.specs.Nodes.{IsLedByAnother, IsNext, NodeConfig, NodeView, node_config}
+use Rattle.batcher_node.specs.Nodes.{IsNext, NodeConfig, NodeView, WhyNotEntered, node_config}
 use Rattle.batcher_node.specs.Nodes.{slot_at}
-use Rattle.batcher_node.specs.Represents.{IsHeard, MayNeedIn, ahead_answer, is_heard}
+use Rattle.batcher_node.specs.Represents.{VoteMayNeed, ahead_answer, is_heard}
 use Rattle.batcher_node.specs.Windows.{is_ahead}
 use Rattle.batcher_node.specs.Verdicts.{LooksAtKindThere, LooksAtThere}
 use Rattle.batcher_node.specs.declared.answers.Ahead.{Ahead}
@@ -99,10 +98,10 @@ use Rattle.batcher_ffi.specs.declared.caller.Caller.{Caller}
 use Rattle.batcher_ffi.specs.declared.codes.TheConstants.{BEGUN, CLOSED, DAMAGED, DONE, ELSEWHERE}
 use Rattle.batcher_ffi.specs.declared.codes.TheConstants.{DROPPED, FORGED, FULL, IDLE, KNOWN}
 use Rattle.batcher_ffi.specs.declared.codes.TheConstants.{MALFORMED, UNKNOWN}
-use Rattle.batcher_ffi.specs.declared.codes.TheConstants.{LEADER_CHANGED, NOT_BEGUN, NOT_GIVEN}
+use Rattle.batcher_ffi.specs.declared.codes.TheConstants.{NOT_BEGUN, NOT_GIVEN}
 use Rattle.batcher_ffi.specs.declared.codes.TheConstants.{NOT_OWN, NOT_VERIFIED, NOT_WRITTEN}
 use Rattle.batcher_ffi.specs.declared.codes.TheConstants.{OTHER_OWNER, OTHER_VERSION}
-use Rattle.batcher_ffi.specs.declared.codes.TheConstants.{OUT_OF_MEMORY, PASSED, REFUSED, SHORT}
+use Rattle.batcher_ffi.specs.declared.codes.TheConstants.{OUT_OF_MEMORY, REFUSED, SHORT}
 use Rattle.batcher_ffi.specs.declared.codes.TheConstants.{SIGNED, STALE, VERIFY, WRITE}
 use Rattle.batcher_ffi.specs.declared.flat.FlatAdmission.{FlatAdmission}
 use Rattle.batcher_ffi.specs.declared.flat.FlatAttestation.{FlatAttestation}
@@ -522,10 +521,8 @@ module _ (before : CValidator) (code : ℕ) (after : CValidator) where
     pub written : AnswersVote answer code old out
     pub meets : IfOk answer (λ receipt.
         Notes (did (called (vote_came (record { 0 = peer }) vote receipt))))
-    pub heard : OnErr answer (IsHeard (validator_config before) before.voter.node
-        (record { 0 = peer }) (round_in (subject_of vote)))
-    pub needed : OnErr answer (MayNeedIn (validator_config before) before.voter.node
-        (round_in (subject_of vote)).view.0 (NetworkCall (record { 0 = peer }) vote))
+    pub needed : OnErr answer (VoteMayNeed (validator_config before) before.voter.node
+        (record { 0 = peer }) vote)
     pub refused : OnErr answer (after ≡ before)
     pub on_disk : validator_copy after ≡ validator_copy before
 
@@ -694,10 +691,7 @@ module _ (before : CValidator) (code : ℕ) (after : CValidator) where
     pub code_is : code ≡ enter_code answer
     pub meets : OnOk answer (RunEnters (validator_config before) view (participant leader)
         before after)
-    pub passed : code ≡ PASSED → view < before.voter.node.window.finalized
-    pub led : code ≡ LEADER_CHANGED
-        → IsLedByAnother (slot_at before.voter.node.rounds view) (participant leader)
-    pub needed : code ≡ OUT_OF_MEMORY → slot_at before.voter.node.rounds view ≡ None
+    pub why : IfErr answer (WhyNotEntered before.voter.node view (participant leader))
     pub refused : OnErr answer (after ≡ before)
     pub on_disk : validator_copy after ≡ validator_copy before
 

@@ -84,10 +84,12 @@ pub use Rattle.batcher_node.specs.Events.{NodeEvent, NodeHistory, view_history, 
 pub use Rattle.batcher_node.specs.Events.{view_finalized, constructed, proposal_forwarded, at_view, peer_in, is_peer, cause_by, invalid_in, started, cause_in}
 pub use Rattle.batcher_node.specs.Events.{forgery_came, window_in, window_after}
 pub use Rattle.batcher_node.specs.NodePromises.{IsForCause, AreForCause, GaveCauseFor, HadGivenCause, IsNodePromised}
+pub use Rattle.batcher_node.specs.declared.answers.EnterFault.TheVariants.{LeaderChanged as LeaderChangedFault}
 pub use Rattle.batcher_node.specs.Nodes.{NodeConfig, NodeView, node_config, cause_at, slot_at, fresh_round, MakesCall, MakesCallThere, NeedsThere, IsNext}
-pub use Rattle.batcher_node.specs.Nodes.{IsTended, HasChanged, Refuses, IsLedByAnother, due_after, MakesCallFresh, ViewGoesOn, SameNode}
+pub use Rattle.batcher_node.specs.Nodes.{IsTended, HasChanged, WhyNotEntered, Refuses, IsLedByAnother, due_after, MakesCallFresh, ViewGoesOn, SameNode}
 pub use Rattle.batcher_node.specs.Represents.{AreNamed, IsNamed, NodeRepresents, receipt, receipt_from, is_within, config_of, is_to_be_tried, ViewRepresents}
-pub use Rattle.batcher_node.specs.Represents.{NodeMeets, SimulatesCast, SimulatesForward, MayNeedIn, NextMayNeed, cast_by, HasHistory, ForEachNodeHistory}
+pub use Rattle.batcher_node.specs.Represents.{CertificateMayNeed, NodeMeets, SimulatesCast, SimulatesForward, MayNeedIn, NextMayNeed, VoteMayNeed, cast_by}
+pub use Rattle.batcher_node.specs.Represents.{HasHistory, ForEachNodeHistory}
 pub use Rattle.batcher_node.specs.Represents.{ForSomeNodeHistory, IsNode, is_unblocked, mode_of}
 pub use Rattle.batcher_node.specs.Sending.{ToSendAgree, to_send_by, view_of, votes_to_send, HearsOnly, HoldsCertified, SendsWhatIsToSend, HearsWhatIsToSend}
 pub use Rattle.batcher_node.specs.SendingExamples.{of_four, sent, heard, SendingExamples}

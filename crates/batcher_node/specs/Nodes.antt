@@ -26,6 +26,9 @@ use Rattle.batcher.specs.History.{Event}
 use Rattle.batcher.specs.Answers.{needs_memory}
 use Rattle.batcher.specs.RoundContracts.{ForEachHistory, SimulatesAlways}
 use Rattle.batcher.specs.Represents.{Represents}
+use Rattle.batcher_node.specs.declared.answers.EnterFault.{EnterFault}
+use Rattle.batcher_node.specs.declared.answers.EnterFault.TheVariants.{LeaderChanged, OutOfMemory}
+use Rattle.batcher_node.specs.declared.answers.EnterFault.TheVariants.{Passed}
 use Rattle.batcher_node.specs.declared.window.Window.{Window}
 use Rattle.batcher_node.specs.declared.answers.Cause.{Cause}
 use Rattle.batcher_node.specs.declared.slot.Slot.{Slot}
@@ -188,3 +191,11 @@ module _ {S D K G C : Type 0} (round_config : RoundView S G D → Config D K G C
     pub step :
         AfterConstruct (round_config slot.round) slot.round.holds before given left.round.holds
         after
+
+-- Why a view isn't entered. Where it has no round, there may be no memory for one.
+abbrev pub WhyNotEntered : {S G D : Type 0} → NodeView S G D → ℕ → Participant → EnterFault
+    → Type 0
+WhyNotEntered node view leader Passed = view < node.window.finalized
+WhyNotEntered node view leader LeaderChanged =
+    IsLedByAnother (slot_at node.rounds view) leader
+WhyNotEntered node view leader OutOfMemory = slot_at node.rounds view ≡ None

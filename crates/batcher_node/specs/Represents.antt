@@ -22,7 +22,9 @@ use Rattle.batcher.specs.History.{History}
 use Rattle.batcher.specs.Answers.{IsPossible, needs_memory, network_answer, own_answer}
 use Rattle.batcher.specs.Answers.{certificate_answer}
 use Rattle.batcher.specs.calls.Call.{Call}
+use Rattle.batcher.specs.calls.Call.TheVariants.{Certificate as CertificateCall}
 use Rattle.batcher.specs.calls.Call.TheVariants.{Construct as ConstructCall}
+use Rattle.batcher.specs.calls.Call.TheVariants.{Network as NetworkCall}
 use Rattle.batcher.specs.Represents.{Represents}
 use Rattle.batcher_node.specs.declared.answers.Ahead.{Ahead}
 use Rattle.batcher_node.specs.declared.answers.Ahead.TheVariants.{Certified, Forged as ForgedAhead}
@@ -233,6 +235,21 @@ module _ {D K G C : Type 0} (x : NodeConfig D K G C) where
       (slot_at node.rounds view ≡ None)
       ⊎ ForEachNodeHistory node (λ past.
       needs_memory (config_of past view) (view_history view past) call ≡ true)
+
+  -- A vote is looked at, and may need memory. A certificate that certifies what it names is looked
+  -- at too, and may need some.
+  pub record VoteMayNeed {S : Type 0} (node : NodeView S G D) (peer : K) (vote : Vote G D)
+      : Type 0 where
+    pub heard : IsHeard node peer (round_in (subject_of vote))
+    pub needs : MayNeedIn node (round_in (subject_of vote)).view.0 (NetworkCall peer vote)
+
+  pub record CertificateMayNeed {S : Type 0} (node : NodeView S G D) (peer : K)
+      (certificate : Certificate C D) : Type 0 where
+    pub certifies : certifies_itself x.meaning certificate ≡ true
+    pub heard : IsHeard node peer (round_in (subject_certified certificate))
+    pub needs :
+        MayNeedIn node (round_in (subject_certified certificate)).view.0
+        (CertificateCall certificate)
 
   -- The next construction may need memory.
   pub record NextMayNeed {S : Type 0} (node : NodeView S G D) : Type 0 where

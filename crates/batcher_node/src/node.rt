@@ -7,11 +7,10 @@ ghost use Rattle.std.specs.List.{list_any};
 ghost use Rattle.std.specs.Option.{option_map, option_copied, option_or};
 ghost use Rattle.std.specs.List.Sorted.{IsStrictlySortedBy};
 ghost use Rattle.std.specs.Ordering.{nat_cmp};
-ghost use Rattle.batcher.specs.Votes.{subject_of, subject_certified, attestation_of, round_in};
+ghost use Rattle.batcher.specs.Votes.{subject_of, attestation_of, round_in};
 ghost use Rattle.batcher.specs.Verifiers.{certifies_itself, IfGiven};
 ghost use Rattle.batcher.specs.Answers.{own_answer};
-ghost use Rattle.batcher.specs.calls.Call.TheVariants.{Network as NetworkCall, Own as OwnCall};
-ghost use Rattle.batcher.specs.calls.Call.TheVariants.{Certificate as CertificateCall};
+ghost use Rattle.batcher.specs.calls.Call.TheVariants.{Own as OwnCall};
 ghost use Rattle.batcher.specs.Steps.{fault_or_memory};
 ghost use Rattle.batcher_node.specs.declared.answers.Cause.TheVariants.{Vote as ForVote};
 ghost use Rattle.batcher_node.specs.declared.answers.Cause.TheVariants.{Signature as ForSignature};
@@ -20,14 +19,13 @@ ghost use Rattle.batcher_node.specs.Events.{peer_in, invalid_in, started, vote_c
 ghost use Rattle.batcher_node.specs.Events.{certificate_came, view_entered, view_finalized};
 ghost use Rattle.batcher_node.specs.Events.{constructed, forgery_came, view_history};
 ghost use Rattle.batcher_node.specs.Nodes.{SameNode, IsAtRest, IsNext, Draws};
-ghost use Rattle.batcher_node.specs.Nodes.{IsLedByAnother, cause_at, slot_at};
+ghost use Rattle.batcher_node.specs.Nodes.{WhyNotEntered, cause_at, slot_at};
 ghost use Rattle.batcher_node.specs.Represents.{cast_by, NodeMeets, SimulatesCast};
 ghost use Rattle.batcher_node.specs.Represents.{SimulatesForward, NodeRepresents};
-ghost use Rattle.batcher_node.specs.Represents.{ForEachNodeHistory, IsHeard, MayNeedIn};
-ghost use Rattle.batcher_node.specs.Represents.{NextMayNeed, config_of, ForSomeNodeHistory};
-ghost use Rattle.batcher_node.specs.Represents.{ahead_answer, is_heard};
-ghost use Rattle.batcher_node.specs.Verdicts.{LooksAtThere};
-ghost use Rattle.batcher.specs.Verdicts.{BatchIsAssembled};
+ghost use Rattle.batcher_node.specs.Represents.{CertificateMayNeed, ForEachNodeHistory, MayNeedIn};
+ghost use Rattle.batcher_node.specs.Represents.{VoteMayNeed, NextMayNeed, config_of};
+ghost use Rattle.batcher_node.specs.Represents.{ForSomeNodeHistory, ahead_answer, is_heard};
+ghost use Rattle.batcher_node.specs.Verdicts.{GivesByVerdicts};
 ghost use Rattle.batcher_node.specs.NodePromises.{HadGivenCause, IsComplete, KeepsPromises};
 
 use crate::answers::{Ahead, Cast, Cause, EnterFault, Receipt, Verdict};
@@ -168,10 +166,8 @@ impl<S: Scheme<D>, D: Digest> Node<S, D> {
         ensures outside_stays { result ≡ Ok Receipt.Outside → self.new ≡ self.old }
         ensures dropped_stays { result ≡ Ok Receipt.Dropped → self.new ≡ self.old }
         ensures unknown_stays { result ≡ Ok Receipt.Unknown → self.new ≡ self.old }
-        ensures heard { OnErr result (IsHeard (⟦<S as NodeConfigs<D>>⟧.of self.old) self.old peer
-            (round_in (subject_of vote))) }
-        ensures needed { OnErr result (MayNeedIn (⟦<S as NodeConfigs<D>>⟧.of self.old) self.old
-            (round_in (subject_of vote)).view.0 (NetworkCall peer vote)) }
+        ensures needed { OnErr result
+            (VoteMayNeed (⟦<S as NodeConfigs<D>>⟧.of self.old) self.old peer vote) }
         ensures refused { OnErr result (self.new ≡ self.old) }
         ensures same { SameNode self.old self.new }
     {
@@ -207,12 +203,8 @@ impl<S: Scheme<D>, D: Digest> Node<S, D> {
         ensures dropped_stays { result ≡ Ok Receipt.Dropped → self.new ≡ self.old }
         ensures unknown_stays { result ≡ Ok Receipt.Unknown → self.new ≡ self.old }
         ensures known_stays { result ≡ Ok (Receipt.Answered Verdict.Known) → self.new ≡ self.old }
-        ensures heard { OnErr result ((IsHeard (⟦<S as NodeConfigs<D>>⟧.of self.old) self.old peer
-            (round_in (subject_certified certificate.now)))
-            × (certifies_itself (S.meaning self.old.scheme) certificate.now ≡ true)) }
-        ensures needed { OnErr result (MayNeedIn (⟦<S as NodeConfigs<D>>⟧.of self.old) self.old
-            (round_in (subject_certified certificate.now)).view.0
-            (CertificateCall certificate.now)) }
+        ensures needed { OnErr result (CertificateMayNeed (⟦<S as NodeConfigs<D>>⟧.of self.old)
+            self.old peer certificate.now) }
         ensures refused { OnErr result (self.new ≡ self.old) }
         ensures same { SameNode self.old self.new }
     {
@@ -310,11 +302,7 @@ impl<S: Scheme<D>, D: Digest> Node<S, D> {
         ensures meets { OnOk result (NodeMeets (⟦<S as NodeConfigs<D>>⟧.of self.old) self.old
             (view_entered view.0 leader) self.new) }
         ensures passed { view.0 < self.old.window.finalized → result ≡ Err EnterFault.Passed }
-        ensures not_passed { result ≡ Err EnterFault.Passed → view.0 < self.old.window.finalized }
-        ensures led { result ≡ Err EnterFault.LeaderChanged
-            → IsLedByAnother (slot_at self.old.rounds view.0) leader }
-        ensures needed { result ≡ Err EnterFault.OutOfMemory
-            → slot_at self.old.rounds view.0 ≡ None }
+        ensures why { IfErr result (WhyNotEntered self.old view.0 leader) }
         ensures refused { OnErr result (self.new ≡ self.old) }
         ensures same { SameNode self.old self.new }
     {
@@ -516,15 +504,8 @@ where
         ensures meets { IfGiven result
             (λ one. NodeMeets (⟦<S as NodeConfigs<D>>⟧.of self.old) self.old
             (constructed one.view.0 one.batch) self.new) }
-        ensures gives { IfGiven result (λ one. is_some one.batch ≡ true) }
-        ensures assembled { IfGiven result (λ one. IfSome one.batch
-            (BatchIsAssembled (S.meaning self.old.scheme))) }
-        ensures next { IfGiven result (λ one. IsNext self.old.rounds one.view.0) }
-        ensures looks_at { IfGiven result (λ one. LooksAtThere ⟦<S as RoundConfigs<D>>⟧.of
-            (slot_at self.old.rounds one.view.0) subject list.now) }
-        ensures not_stale { (view : ℕ) → IsNext self.old.rounds view
-            → LooksAtThere ⟦<S as RoundConfigs<D>>⟧.of (slot_at self.old.rounds view) subject
-            list.now → IfOk result (λ given. is_some given ≡ true) }
+        ensures given { GivesByVerdicts (S.meaning self.old.scheme) ⟦<S as RoundConfigs<D>>⟧.of
+            self.old.rounds subject list.now result }
         ensures stale { result ≡ Ok None → self.new ≡ self.old }
         ensures needed { OnErr result
             (NextMayNeed (⟦<S as NodeConfigs<D>>⟧.of self.old) self.old) }

@@ -2,14 +2,13 @@
 use Rattle.batcher_validator.proofs.Words.{◌≡◌, ◌≢◌, ◌⊎◌, ◌<◌, ◌≤◌, ◌∙◌, ℕ, true, false, [], ◌∷◌, ap, arith, inl, inr, max, refl, subst, sym, take, Contains}
 use Rattle.batcher_validator.proofs.Words.{unwrap_or, count_by, filter, certifies_itself, kind_certified, round_in, subject_certified, Certificate}
 use Rattle.batcher_validator.proofs.Words.{Finalization, Proposal, Finalize, called, verified, Conduct, cause_in, view_finalized, NodeConfig, Tally, ForEachRun}
-use Rattle.batcher_validator.proofs.Words.{GivenView, Gives, IsRunning, RunStays, ValidatorView, WhyNotFinal, tally_from, left_of, IsFinalAt, is_from, calls_in}
-use Rattle.batcher_validator.proofs.Words.{HasHad, HasHanded, ValidatorHistory, did, gave, voter_history, window_by, Final, IsRaised, NotOfEpoch, Passed}
+use Rattle.batcher_validator.proofs.Words.{GivenView, Gives, IsRunning, RunStays, ValidatorView, tally_from, left_of, IsFinalAt, is_from, calls_in}
+use Rattle.batcher_validator.proofs.Words.{HasHad, HasHanded, ValidatorHistory, did, gave, voter_history, window_by, Final, IsRaised}
 use Rattle.batcher_validator.proofs.Words.{ForEachLife, IsVoting, VoterStays, IsLowestFinal, IsNextFinal, HasAnnouncedFrom, Kind, Round, cases_lt}
 use Rattle.batcher_validator.proofs.Intending.{still_intent}
 use Rattle.batcher_validator.proofs.Giving.{contained, final_of, kind_of}
 use Rattle.batcher_validator.proofs.Going.{or_none, goes_on, sent_raised, sent_still}
 use Rattle.batcher_validator.proofs.Keeping.{first_from, kept_from, kept_still}
-use Rattle.batcher_voter.specs.declared.answers.FinalizeFault.TheVariants.{Forged}
 
 finalized : {D : Type 0} (p q : Proposal D) → Finalize p ≡ Finalize q → p ≡ q
 finalized p q e = cc e
@@ -176,25 +175,31 @@ module _ {S D K G C L : Type 0} (x : NodeConfig D K G C) (old : ValidatorView S 
   in_shelf : Contains old.shelf.certificates at.certificate
   in_shelf = contained old.shelf.certificates i at.certificate at.there
 
-  pub not_forged : WhyNotFinal x old i Forged → ForEachRun x old (λ past earlier. ⊥)
+  pub not_forged :
+      certifies_itself x.meaning at.certificate ≡ false → ForEachRun x old (λ past earlier. ⊥)
   not_forged why past earlier is =
       let yes : certifies_itself x.meaning at.certificate ≡ true = is.kept.certify at.certificate in_shelf in
-      let forged : certifies_itself x.meaning at.certificate ≡ false = why at.certificate at.there in
+      let forged : certifies_itself x.meaning at.certificate ≡ false = why in
       absurd cc
 
-  pub of_this_epoch : WhyNotFinal x old i NotOfEpoch → ForEachRun x old (λ past earlier. ⊥)
-  of_this_epoch why past earlier is = of_cases (why at.certificate at.there)
+  pub of_this_epoch :
+      (kind_certified at.certificate ≢ Finalization)
+      ⊎ ((round_in (subject_certified at.certificate)).epoch ≢ old.voter.node.epoch)
+      → ForEachRun x old (λ past earlier. ⊥)
+  of_this_epoch why past earlier is = of_cases why
     where
       of_cases : (kind_certified at.certificate ≢ Finalization)
           ⊎ ((round_in (subject_certified at.certificate)).epoch ≢ old.voter.node.epoch) → ⊥
       of_cases (inl other) = other (kind_of at.certificate p at.is_of)
       of_cases (inr other) = other ((is.kept.looked_at at.certificate in_shelf).of_epoch ∙ epoch)
 
-  pub not_passed : WhyNotFinal x old i Passed → ForEachRun x old (λ past earlier. ⊥)
+  pub not_passed :
+      (round_in (subject_certified at.certificate)).view.0 < old.voter.node.window.finalized
+      → ForEachRun x old (λ past earlier. ⊥)
   not_passed why past earlier is =
       absurd (omega (
         arith,
-        why at.certificate at.there,
+        why,
         (is.kept.looked_at at.certificate in_shelf).from_first,
         ap (λ w. w.finalized) is.voting.represents.window_is,
       ))

@@ -14,13 +14,13 @@ pub use Rattle.std.proofs.lemmas.List.Edits.{Swapped, swapped_from_swap, length-
 pub use Rattle.std.proofs.lemmas.List.Sorted.{Contains-permutation, IsPermutation-keeps, IsPermutation-swap, IsPermutation-sym}
 pub use Rattle.std.proofs.lemmas.List.Sorted.{IsPermutation-trans, length_permutation}
 pub use Rattle.std.proofs.lemmas.List.Sums.{sum_by-cons, length-filter}
-pub use Rattle.std.proofs.lemmas.Option.{get_or_from_slice_get, slice_get_within, slice_get-get_or, slice_get-map}
+pub use Rattle.std.proofs.lemmas.Option.{same_Some, get_or_from_slice_get, slice_get_within, slice_get-get_or, slice_get-map}
 pub use Rattle.std.specs.List.{slice_get, count_by, filter, list_any, swap}
 pub use Rattle.std.specs.Option.{option_map, option_map_or, option_or}
 pub use Rattle.std.specs.Prelude.{◌≡◌, ◌++◌, ℕ, zero, suc, Bool, true, false, List, [], ◌∷◌, Some, None, length, replicate, take, Contains, unwrap_or, ◌⊎◌, ◌<◌}
 pub use Rattle.std.specs.Prelude.{◌-◌, ◌*◌, ◌||◌, IsPermutation, min, nat_le}
 pub use Rattle.std.specs.Prelude.{Option, cond, set, is_some, ◌≤◌, All, IfSome, max, ◌+◌, not, ◌≢◌, ◌^◌, MatchBool, MatchOption, ◌&&◌, drop}
-pub use Rattle.std.specs.Prelude.{Ok, map, nat_lt, ◌==◌}
+pub use Rattle.std.specs.Prelude.{IfErr, Ok, map, nat_lt, ◌==◌}
 pub use Rattle.batcher.specs.Lists.{is_some_and}
 pub use Rattle.batcher.specs.Config.{Config}
 pub use Rattle.batcher.specs.Next.{pending_next, subject_next}
@@ -67,7 +67,7 @@ pub use Rattle.batcher_journal.specs.Text.{Contents, fields_of}
 pub use Rattle.batcher_node.proofs.Lowest.{one_next}
 pub use Rattle.batcher_node.specs.Events.{started, cause_by, is_peer, vote_came, NodeEvent, certificate_came, constructed, cause_in}
 pub use Rattle.batcher_node.specs.Events.{forgery_came, peer_in, view_finalized, view_history, window_after, vote_cast, view_entered}
-pub use Rattle.batcher_node.specs.Nodes.{NodeConfig, NodeView, SameNode, node_config, IsAtRest, cause_at, slot_at, IsNext, IsLedByAnother}
+pub use Rattle.batcher_node.specs.Nodes.{NodeConfig, NodeView, SameNode, node_config, IsAtRest, cause_at, slot_at, IsNext}
 pub use Rattle.batcher_node.specs.Represents.{ViewRepresents, ahead_answer, ahead_answer_of, is_to_be_tried}
 pub use Rattle.batcher_node.specs.Verdicts.{LooksAtKindThere, LooksAtThere}
 pub use Rattle.batcher_node.specs.Windows.{is_ahead, is_of, numbered}
@@ -99,7 +99,7 @@ pub use Rattle.batcher_validator.specs.Resending.{is_due_again, is_finalization_
 pub use Rattle.batcher_validator.specs.Returning.{agains, StaysFinal}
 pub use Rattle.batcher_validator.specs.Recalling.{Recalls, IsAtPlace}
 pub use Rattle.batcher_validator.specs.Running.{HasBegun, HasCertificate, IsRunning, ValidatorView, is_over_for, AreBlocked, blocks_sender, IntentView}
-pub use Rattle.batcher_validator.specs.Running.{ForEachRun, Gives, GivenView, RunStays, WhyNotFinal, tally_from, left_of, AreKept, RunMeets, is_before_view}
+pub use Rattle.batcher_validator.specs.Running.{ForEachRun, Gives, GivenView, RunStays, tally_from, left_of, AreKept, RunMeets, is_before_view}
 pub use Rattle.batcher_validator.specs.Running.{AreFirstVotes, AreFirstVotesBut, HasConstructed, tallied, IsIntent, AreBytesOf, AreSilent, RunEnters}
 pub use Rattle.batcher_validator.specs.Running.{RunCasts, RunMayWrite, RunWrites, RunTakes}
 pub use Rattle.batcher_validator.specs.Shelves.{PutsBehind, ShelfView, last_of}
@@ -123,9 +123,11 @@ pub use Rattle.batcher_voter.specs.Remembering.{Remembers}
 pub use Rattle.batcher_voter.specs.Reopening.{IsFinalView, IsTakenIn, StaysKnown}
 pub use Rattle.batcher_voter.specs.Voting.{HasStarted, BeginWithOneView, ForEachLife, IsFinalizable, Permits, IsVoting, VoterStays, IsNextView}
 pub use Rattle.batcher_voter.specs.Voting.{VoterMeets, Casts, IsWritten, MayWrite, WritesAndCalls}
-pub use Rattle.batcher_voter.specs.declared.answers.FinalizeFault.TheVariants.{NotOfEpoch, Passed}
 pub use Rattle.batcher_voter.specs.declared.answers.Permission.{Permission}
 pub use Rattle.batcher_voter.specs.declared.answers.Permission.TheVariants.{Refused}
 pub use Rattle.batcher_voter.specs.declared.answers.Rule.{Rule}
 pub use Rattle.batcher_voter.specs.declared.answers.Rule.TheVariants.{Contradicts, Nullified, NotNotarized, ParentBeforeFinal, ParentNotEarlier, ParentUnknown}
 pub use Rattle.batcher_voter.specs.declared.answers.Rule.TheVariants.{ViewNotNullified}
+pub use Rattle.batcher_bytes.specs.Messages.{vote_format}
+pub use Rattle.batcher_node.specs.Nodes.{WhyNotEntered}
+pub use Rattle.batcher_voter.specs.Finalizing.{Finalizes, WhyNotFinalized}

@@ -4,13 +4,13 @@ use Rattle.std.specs.Prelude.{Ok, Err}
 use Rattle.batcher.specs.messages.Certificate.{Certificate}
 use Rattle.batcher.specs.messages.Proposal.{Proposal}
 use Rattle.batcher.specs.messages.Vote.{Vote}
-use Rattle.batcher_bytes.specs.Copies.{CopiedView, CopyView, is_done_in, is_given}
+use Rattle.batcher_bytes.specs.Copies.{CopiedView, is_done_in, is_given}
 use Rattle.batcher_bytes.specs.Format.{Format}
 use Rattle.batcher_bytes.specs.declared.signature.Signature.{Signature}
 use Rattle.batcher_node.specs.Nodes.{NodeConfig}
 use Rattle.batcher_types.specs.declared.messages.Sha256Digest.{Sha256Digest}
-use Rattle.batcher_validator.specs.Ending.{HasLessLeft}
-use Rattle.batcher_validator.specs.Running.{ForEachRun, Gives, IsReadyTask, RunStays, ValidatorView}
+use Rattle.batcher_validator.specs.Ending.{GivesTask, HasLessLeft}
+use Rattle.batcher_validator.specs.Running.{ForEachRun, RunStays, ValidatorView}
 use Rattle.batcher_validator.specs.Shelves.{IsFinalAt, IsToAnnounce}
 use Rattle.batcher_validator.specs.Tasks.{IsGivenMeanwhile, NothingIsDue, NothingIsDueMeanwhile}
 use Rattle.batcher_validator.specs.declared.next.Next.{Next}
@@ -62,8 +62,7 @@ module _ {S K C : Type 0} (x : NodeConfig Sha256Digest K Signature C)
   -- A task is given where all is written that it rests on, and there is less left to be given.
   pub record GivesWritten (task : Task Signature Sha256Digest) : Type 0 where
     pub written : IsGivenMeanwhile task ⊎ IsAllWritten old
-    pub gives : Gives x old new task
-    pub ready : IsReadyTask old task
+    pub gives : GivesTask x old new task
     pub less : HasLessLeft x old new task
 
   -- Nothing is to be done, or what is left waits for the write that is under way.

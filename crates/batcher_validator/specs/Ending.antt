@@ -1,6 +1,6 @@
 -- `poll` comes to an end: where nothing comes meanwhile, with each task less is left to be given.
 use Rattle.std.specs.Prelude.{◌≡◌, ◌<◌, ◌+◌, ◌-◌, ◌*◌, ⊤, ℕ, Bool, cond, false, is_some, length}
-use Rattle.std.specs.Prelude.{nat_lt, not, ◌∷◌, Some}
+use Rattle.std.specs.Prelude.{nat_lt, not, ◌∷◌, IfSome, None, Option, Some}
 use Rattle.std.specs.List.{count_by}
 use Rattle.batcher.specs.messages.Certificate.{Certificate}
 use Rattle.batcher.specs.messages.Certificate.TheVariants.{Finalization as FinalizationCertificate}
@@ -9,8 +9,10 @@ use Rattle.batcher.specs.messages.Subject.TheVariants.{Finalize}
 use Rattle.batcher_agreement.specs.Policy.{Conduct}
 use Rattle.batcher_node.specs.Nodes.{NodeConfig}
 use Rattle.batcher_validator.specs.Histories.{ValidatorHistory, gave, last_to_sign}
-use Rattle.batcher_validator.specs.Running.{ForEachRun, Gives, IsRunning, ValidatorView}
-use Rattle.batcher_validator.specs.Tasks.{MaySign}
+use Rattle.batcher_validator.specs.Running.{ForEachRun, Gives, IsReadyTask, IsRunning, RunStays}
+use Rattle.batcher_validator.specs.Running.{ValidatorView}
+use Rattle.batcher_validator.specs.Tasks.{IsGivenMeanwhile, MaySign, NothingIsDue}
+use Rattle.batcher_validator.specs.Tasks.{NothingIsDueMeanwhile}
 use Rattle.batcher_validator.specs.declared.task.Task.{Task}
 use Rattle.batcher_validator.specs.declared.task.Task.TheVariants.{Final, Sign}
 use Rattle.batcher_voter.specs.Voting.{IsFinalizable, VoterView}
@@ -66,6 +68,30 @@ module _ {S D K G C L : Type 0} (x : NodeConfig D K G C) where
       × WaitsForVote (gave (Sign s) ∷ past) earlier new))
   HasLessLeft old new task =
       (finals_left new ≡ finals_left old) × (others_left new < others_left old)
+
+  -- A task is given that is to be done, and can be.
+  pub record GivesTask (old new : ValidatorView S G D L C) (task : Task G D) : Type 0 where
+    pub gives : Gives x old new task
+    pub ready : IsReadyTask old task
+
+  -- One is given where one is due, and the voter stays as it was.
+  pub record GivesDue (old new : ValidatorView S G D L C) (given : Option (Task G D)) : Type 0
+    where
+      pub some : IfSome given (GivesTask old new)
+      pub nothing :
+          given ≡ None → ForEachRun x old (λ past earlier. NothingIsDue x earlier past)
+      pub rests : given ≡ None → RunStays x old new
+      pub voter : new.voter ≡ old.voter
+
+  -- While a write is under way, a task is given where one is due that waits for no write.
+  pub record GivesMeanwhile (old new : ValidatorView S G D L C) (given : Option (Task G D))
+      : Type 0 where
+    pub some : IfSome given (GivesTask old new)
+    pub meanwhile : IfSome given IsGivenMeanwhile
+    pub nothing :
+        given ≡ None → ForEachRun x old (λ past earlier. NothingIsDueMeanwhile x earlier past)
+    pub same : given ≡ None → new ≡ old
+    pub voter : new.voter ≡ old.voter
 
   -- A validator is polled again and again, and gives a task each time. Nothing comes meanwhile.
   pub record GivesOnAndOn (validator : ℕ → ValidatorView S G D L C) (task : ℕ → Task G D) : Type 0

@@ -1,13 +1,12 @@
 -- A validator: a voter, with what it gave to be done.
-use Rattle.std.specs.Prelude.{◌≡◌, ◌≢◌, ◌<◌, ◌≤◌, ◌⊎◌, ⊤, ℕ, Bool, true, false, List, [], ◌∷◌, ◌++◌}
+use Rattle.std.specs.Prelude.{◌≡◌, ◌<◌, ◌≤◌, ◌⊎◌, ⊤, ℕ, Bool, true, false, List, [], ◌∷◌, ◌++◌}
 use Rattle.std.specs.Prelude.{◌||◌, Contains, MatchBool, Option, Some, None, Ok, is_some, nat_lt}
 use Rattle.std.specs.Prelude.{◌-◌, ◌^◌, length, min, not, take}
 use Rattle.std.specs.List.{count_by, slice_get}
 use Rattle.batcher.specs.Verifiers.{certifies_itself}
-use Rattle.batcher.specs.Votes.{kind_certified, round_in, subject_certified, subject_of}
+use Rattle.batcher.specs.Votes.{round_in, subject_certified, subject_of}
 use Rattle.batcher.specs.messages.Certificate.{Certificate}
 use Rattle.batcher.specs.messages.Kind.{Kind}
-use Rattle.batcher.specs.messages.Kind.TheVariants.{Finalization}
 use Rattle.batcher.specs.answers.Admission.{Admission}
 use Rattle.batcher.specs.messages.Proposal.{Proposal}
 use Rattle.batcher.specs.messages.Subject.{Subject}
@@ -25,7 +24,8 @@ use Rattle.batcher_journal.specs.Records.{Certified}
 use Rattle.batcher_journal.specs.Text.{Contents}
 use Rattle.batcher_node.specs.Events.{NodeEvent, constructed, started, view_finalized, vote_cast}
 use Rattle.batcher_node.specs.Events.{forgery_came}
-use Rattle.batcher_node.specs.Nodes.{IsAtRest, NodeConfig}
+use Rattle.batcher_bytes.specs.Copies.{CopyView, KeepsCopy}
+use Rattle.batcher_node.specs.Nodes.{IsAtRest, NodeConfig, SameNode}
 use Rattle.batcher_node.specs.declared.node.Construction.{Construction}
 use Rattle.batcher_node.specs.Windows.{is_of}
 use Rattle.batcher_node.specs.declared.answers.Ahead.{Ahead}
@@ -58,10 +58,7 @@ use Rattle.batcher_validator.specs.declared.task.Task.TheVariants.{Cast as CastA
 use Rattle.batcher_validator.specs.declared.task.Task.TheVariants.{SendCertificate, SendVote}
 use Rattle.batcher_validator.specs.declared.task.Task.TheVariants.{Verify}
 use Rattle.batcher_validator.specs.declared.unsigned.Unsigned.{Unsigned}
-use Rattle.batcher_voter.specs.Voting.{IsVoting, LeavesWhatWasDone, VoterView}
-use Rattle.batcher_voter.specs.declared.answers.FinalizeFault.{FinalizeFault}
-use Rattle.batcher_voter.specs.declared.answers.FinalizeFault.TheVariants.{Forged as NotFinalForged}
-use Rattle.batcher_voter.specs.declared.answers.FinalizeFault.TheVariants.{NotOfEpoch, Passed}
+use Rattle.batcher_voter.specs.Voting.{IsVoting, LeavesWhatWasDone, SameVoter, VoterView}
 
 -- What a validator means to vote for, with digests D.
 pub record IntentView (D : Type 0) : Type 0 where
@@ -108,6 +105,19 @@ pub record ValidatorView (S G D L C : Type 0) : Type 0 where
   pub given : GivenView D
   -- the certificates that it keeps
   pub shelf : ShelfView C D
+
+module _ {S G D L C : Type 0} (is_copied_as : L → CopyView → Type 0)
+    (old new : ValidatorView S G D L C) where
+  -- The node is of the same scheme and epoch, and a caller has the same copy of the journal's log.
+  pub record SameRun : Type 0 where
+    pub same : SameNode old.voter.node new.voter.node
+    pub copied : KeepsCopy is_copied_as old.voter.journal.log new.voter.journal.log
+
+  -- Nothing but the voter has changed, and of that only what a call of its node changes.
+  pub record OnlyVoter : Type 0 where
+    pub voter : SameVoter is_copied_as old.voter new.voter
+    pub given : new.given ≡ old.given
+    pub shelf : new.shelf ≡ old.shelf
 
 -- each number of a tally, changed so
 abbrev pub tallied : (ℕ → ℕ) → Tally → Tally
@@ -215,21 +225,6 @@ IsReadyTask validator (SendCertificate kind number) =
 IsReadyTask validator Verify = IsAtRest validator.voter.node → ⊥
 IsReadyTask validator task = ⊤
 
--- Why the view of the finalization at a place isn't made the final one.
-abbrev pub WhyNotFinal : {S D K G C L : Type 0} → NodeConfig D K G C → ValidatorView S G D L C → ℕ
-    → FinalizeFault → Type 0
-WhyNotFinal x validator i NotFinalForged =
-    (c : Certificate _ _) → slice_get validator.shelf.certificates i ≡ Some c
-    → certifies_itself x.meaning c ≡ false
-WhyNotFinal x validator i NotOfEpoch =
-    (c : Certificate _ _) → slice_get validator.shelf.certificates i ≡ Some c
-    → (kind_certified c ≢ Finalization)
-    ⊎ ((round_in (subject_certified c)).epoch ≢ validator.voter.node.epoch)
-WhyNotFinal x validator i Passed =
-    (c : Certificate _ _) → slice_get validator.shelf.certificates i ≡ Some c
-    → (round_in (subject_certified c)).view.0 < validator.voter.node.window.finalized
-WhyNotFinal x validator i fault = ⊤
-
 -- A journal has a certificate: as the finalization of its floor, or beside its votes.
 abbrev pub HasCertificate : {G C D : Type 0} → Format (Certificate C D) → Contents G D
     → Certificate C D → Type 0
@@ -327,6 +322,11 @@ module _ {S D K G C L : Type 0} (x : NodeConfig D K G C) where
   -- nothing happened that counts
   abbrev pub RunStays : ValidatorView S G D L C → ValidatorView S G D L C → Type 0
   RunStays old new = ForEachRun old (λ past earlier. IsRunning past earlier new)
+
+  -- Nothing happened that counts, and the node is as it was.
+  pub record RunKeepsNode (old new : ValidatorView S G D L C) : Type 0 where
+    pub node : new.voter.node ≡ old.voter.node
+    pub stays : RunStays old new
 
   -- What a crash leaves after a call is what was done before it.
   abbrev pub RunLeaves : Format (Vote G D) → (L → Type 0) → (L → List ℕ → Type 0)

@@ -1,25 +1,19 @@
 //! A proposal is given as final, and who fell behind catches up.
 
-ghost use Rattle.std.specs.Prelude.{◌≡◌, ◌∷◌, Err, IfErr, IfOk, IfSome, None, Ok, OnErr, OnOk};
-ghost use Rattle.std.specs.Prelude.{Some, not, take, true, false};
+ghost use Rattle.std.specs.Prelude.{◌≡◌, Err, IfOk, IfSome, None, Ok, OnErr};
+ghost use Rattle.std.specs.Prelude.{Some, not, take, false};
 ghost use Rattle.std.specs.List.{count_by, filter, slice_get};
 ghost use Rattle.batcher.specs.messages.Certificate.{Certificate as TheCertificate};
-ghost use Rattle.batcher_agreement.specs.Lives.{called, verified};
 ghost use Rattle.batcher_bytes.specs.Messages.{certificate_format, vote_format};
 ghost use Rattle.batcher_journal.specs.Floors.{is_over};
-ghost use Rattle.batcher_node.specs.Events.{view_finalized};
-ghost use Rattle.batcher_node.specs.Nodes.{SameNode};
 ghost use Rattle.batcher_validator.specs.Disks.{IsTooLongToAnnounce};
-ghost use Rattle.batcher_validator.specs.Ending.{HasLessLeft};
-ghost use Rattle.batcher_validator.specs.Running.{ForEachRun, Gives, IsReadyTask};
-ghost use Rattle.batcher_validator.specs.Running.{RunLeaves};
-ghost use Rattle.batcher_validator.specs.Running.{RunStays, WhyNotFinal, tally_from, left_of};
+ghost use Rattle.batcher_validator.specs.Ending.{GivesTask, HasLessLeft};
+ghost use Rattle.batcher_validator.specs.Running.{ForEachRun, RunLeaves, RunStays, tally_from};
+ghost use Rattle.batcher_validator.specs.Running.{left_of, SameRun};
 ghost use Rattle.batcher_validator.specs.Shelves.{IsFinalAt, IsLowestFinal, IsToAnnounce, is_from};
 ghost use Rattle.batcher_validator.specs.declared.task.PollFault.{PollFault};
-ghost use Rattle.batcher_voter.specs.Journals.{IsRaised, IsTooLongToFinalize};
-ghost use Rattle.batcher_voter.specs.Voting.{ForEachLife, IsVoting, VoterStays};
 ghost use Rattle.batcher_voter.specs.declared.answers.FinalizeFault.{FinalizeFault};
-ghost use Rattle.batcher_bytes.specs.Copies.{KeepsCopy};
+ghost use Rattle.batcher_voter.specs.Finalizing.{Finalizes};
 
 use crate::tally::Tally;
 use crate::task::{PollFault, Task};
@@ -47,8 +41,9 @@ where
         requires lowest { IsLowestFinal self.old.given.announced self.old.shelf.certificates
             proposal }
         ensures gives { IfOk result (λ given. IfSome given
-            (Gives (⟦<S as NodeConfigs<D>>⟧.of self.old.voter.node) self.old self.new)) }
-        ensures ready { IfOk result (λ given. IfSome given (IsReadyTask self.old)) }
+            (GivesTask (⟦<S as NodeConfigs<D>>⟧.of self.old.voter.node) self.old self.new)) }
+        ensures less { IfOk result (λ given. IfSome given
+            (HasLessLeft (⟦<S as NodeConfigs<D>>⟧.of self.old.voter.node) self.old self.new)) }
         ensures nothing { result ≡ Ok None → ForEachRun
             (⟦<S as NodeConfigs<D>>⟧.of self.old.voter.node) self.old (λ past earlier. ⊥) }
         ensures to_announce { IsToAnnounce self.old.given.announced self.old.shelf.certificates }
@@ -63,13 +58,9 @@ where
         ensures too_long { result ≡ Err PollFault.Full → IsTooLongToAnnounce
             (vote_format S.Signature.format D.format)
             (certificate_format S.Certificate.format D.format) L.is_too_small self.old }
-        ensures less { IfOk result (λ given. IfSome given
-            (HasLessLeft (⟦<S as NodeConfigs<D>>⟧.of self.old.voter.node) self.old self.new)) }
         ensures leaves { RunLeaves (⟦<S as NodeConfigs<D>>⟧.of self.old.voter.node)
             (vote_format S.Signature.format D.format) L.is_honest L.may_leave self.old self.new }
-        ensures same { SameNode self.old.voter.node self.new.voter.node }
-        ensures copied { KeepsCopy L.is_copied_as self.old.voter.journal.log
-            self.new.voter.journal.log }
+        ensures frame { SameRun L.is_copied_as self.old self.new }
     {
         let left = self.tally_from(proposal.round);
         match self.finalize_at(i, &proposal) {
@@ -90,39 +81,17 @@ where
     // The voter makes the view of the finalization at this place the final one.
     fn finalize_at(&mut self, i: usize, proposal: &Proposal<D>) -> Result<(), FinalizeFault>
         requires { IsFinalAt self.old.given.announced self.old.shelf.certificates i proposal.now }
-        ensures meets { OnOk result ((c : TheCertificate S.Certificate D)
-            → slice_get self.old.shelf.certificates i ≡ Some c → ForEachLife
-            (⟦<S as NodeConfigs<D>>⟧.of self.old.voter.node) self.old.voter (λ past earlier.
-            IsVoting (⟦<S as NodeConfigs<D>>⟧.of self.old.voter.node)
-            (called (view_finalized proposal.now.round.view.0) ∷ verified c ∷ past) earlier
-            self.new.voter)) }
-        ensures raised { OnOk result (IsRaised proposal.now.round self.old.voter.journal
-            self.new.voter.journal) }
-        ensures stays { OnErr result (VoterStays
-            (⟦<S as NodeConfigs<D>>⟧.of self.old.voter.node) self.old.voter self.new.voter) }
-        ensures unraised { OnErr result (self.new.voter.journal.is_open ≡ true
-            → (self.old.voter.journal.is_open ≡ true)
-            × (self.new.voter.journal.contents ≡ self.old.voter.journal.contents)) }
-        ensures why { IfErr result (WhyNotFinal
-            (⟦<S as NodeConfigs<D>>⟧.of self.old.voter.node) self.old i) }
-        ensures closed { result ≡ Err FinalizeFault.Closed
-            → self.new.voter.journal.is_open ≡ false }
-        ensures memory { result ≡ Err FinalizeFault.OutOfMemory
-            → self.new.voter.journal.is_open ≡ self.old.voter.journal.is_open }
-        ensures full { result ≡ Err FinalizeFault.Full
-            → self.new.voter.journal.is_open ≡ self.old.voter.journal.is_open }
-        ensures too_long { (c : TheCertificate S.Certificate D)
-            → slice_get self.old.shelf.certificates i ≡ Some c → result ≡ Err FinalizeFault.Full
-            → IsTooLongToFinalize (vote_format S.Signature.format D.format)
-            (certificate_format S.Certificate.format D.format) L.is_too_small c
-            self.old.voter.journal }
+        ensures finalizes { (c : TheCertificate S.Certificate D)
+            → slice_get self.old.shelf.certificates i ≡ Some c
+            → Finalizes (⟦<S as NodeConfigs<D>>⟧.of self.old.voter.node)
+            (vote_format S.Signature.format D.format)
+            (certificate_format S.Certificate.format D.format) L.is_too_small L.is_honest
+            L.may_leave L.is_copied_as self.old.voter c self.new.voter result }
         ensures leaves { RunLeaves (⟦<S as NodeConfigs<D>>⟧.of self.old.voter.node)
             (vote_format S.Signature.format D.format) L.is_honest L.may_leave self.old self.new }
-        ensures same { SameNode self.old.voter.node self.new.voter.node }
+        ensures frame { SameRun L.is_copied_as self.old self.new }
         ensures given { self.new.given ≡ self.old.given }
         ensures shelf { self.new.shelf ≡ self.old.shelf }
-        ensures copied { KeepsCopy L.is_copied_as self.old.voter.journal.log
-            self.new.voter.journal.log }
     {
         self.voter.finalize(self.shelf.at(i))
     }

@@ -1,18 +1,18 @@
 //! Constructions by verdicts, or by a certificate, from elsewhere: from another thread, say.
 
 ghost use Rattle.std.specs.Prelude.{◌≡◌, ◌≤◌, ◌⊎◌, IfOk, IfSome, List, None, Ok, OnErr, false};
-ghost use Rattle.std.specs.Prelude.{is_some, map, true, ℕ};
+ghost use Rattle.std.specs.Prelude.{map, true, ℕ};
 ghost use Rattle.batcher.specs.Verifiers.{IfGiven};
 ghost use Rattle.batcher.specs.messages.Attestation.{Attestation as TheAttestation};
 ghost use Rattle.batcher.specs.messages.Subject.{Subject as TheSubject};
 ghost use Rattle.batcher_node.specs.Events.{constructed};
-ghost use Rattle.batcher_node.specs.Nodes.{IsNext, SameNode, slot_at};
-ghost use Rattle.batcher_node.specs.Verdicts.{LooksAtKindThere, LooksAtThere};
+ghost use Rattle.batcher_node.specs.Nodes.{IsNext, slot_at};
+ghost use Rattle.batcher_node.specs.Verdicts.{LooksAtKindThere, LooksAtThere, GivesByVerdicts};
 ghost use Rattle.batcher_validator.specs.Histories.{answered};
-ghost use Rattle.batcher_validator.specs.Running.{HasConstructed, RunMeets, RunStays};
+ghost use Rattle.batcher_validator.specs.Running.{HasConstructed, RunMeets, SameRun, OnlyVoter};
+ghost use Rattle.batcher_validator.specs.Running.{RunKeepsNode};
 ghost use Rattle.batcher_voter.specs.Needing.{ConstructionNeeds};
-ghost use Rattle.batcher_voter.specs.Voting.{VoterMeets, VoterStays};
-ghost use Rattle.batcher_bytes.specs.Copies.{KeepsCopy};
+ghost use Rattle.batcher_voter.specs.Voting.{VoterMeets, VoterStays, VoterKeepsNode};
 
 use crate::inputs::certificate_of;
 use crate::validator::Validator;
@@ -95,12 +95,9 @@ where
         ensures stale { result ≡ Ok false → self.new.voter.node ≡ self.old.voter.node }
         ensures needed { OnErr result ((self.old.shelf.room ≡ 0) ⊎ ConstructionNeeds
             (⟦<S as NodeConfigs<D>>⟧.of self.old.voter.node) self.old.voter) }
-        ensures refused { OnErr result (self.new.voter.node ≡ self.old.voter.node) }
-        ensures stays { OnErr result
-            (RunStays (⟦<S as NodeConfigs<D>>⟧.of self.old.voter.node) self.old self.new) }
-        ensures same { SameNode self.old.voter.node self.new.voter.node }
-        ensures copied { KeepsCopy L.is_copied_as self.old.voter.journal.log
-            self.new.voter.journal.log }
+        ensures refused { OnErr result
+            (RunKeepsNode (⟦<S as NodeConfigs<D>>⟧.of self.old.voter.node) self.old self.new) }
+        ensures frame { SameRun L.is_copied_as self.old self.new }
     {
         match self.make_room() {
             Ok(()) => match self.conclude_with_room(subject, list, verdicts) {
@@ -133,12 +130,9 @@ where
         ensures stale { result ≡ Ok false → self.new.voter.node ≡ self.old.voter.node }
         ensures needed { OnErr result (ConstructionNeeds
             (⟦<S as NodeConfigs<D>>⟧.of self.old.voter.node) self.old.voter) }
-        ensures refused { OnErr result (self.new.voter.node ≡ self.old.voter.node) }
-        ensures stays { OnErr result
-            (RunStays (⟦<S as NodeConfigs<D>>⟧.of self.old.voter.node) self.old self.new) }
-        ensures same { SameNode self.old.voter.node self.new.voter.node }
-        ensures copied { KeepsCopy L.is_copied_as self.old.voter.journal.log
-            self.new.voter.journal.log }
+        ensures refused { OnErr result
+            (RunKeepsNode (⟦<S as NodeConfigs<D>>⟧.of self.old.voter.node) self.old self.new) }
+        ensures frame { SameRun L.is_copied_as self.old self.new }
     {
         senders_of_votes_to_send_are_never_blocked::<S, D>();
         self.begins();
@@ -174,24 +168,16 @@ where
         ensures meets { IfGiven result (λ one. VoterMeets
             (⟦<S as NodeConfigs<D>>⟧.of self.old.voter.node) self.old.voter self.new.voter
             (constructed one.view.0 one.batch)) }
-        ensures not_stale { (view : ℕ) → IsNext self.old.voter.node.rounds view
-            → LooksAtThere ⟦<S as RoundConfigs<D>>⟧.of (slot_at self.old.voter.node.rounds view)
-            subject list.now → IfOk result (λ given. is_some given ≡ true) }
+        ensures given { GivesByVerdicts (S.meaning self.old.voter.node.scheme)
+            ⟦<S as RoundConfigs<D>>⟧.of self.old.voter.node.rounds subject list.now result }
         ensures stale { result ≡ Ok None → self.new.voter.node ≡ self.old.voter.node }
         ensures stale_stays { result ≡ Ok None → VoterStays
             (⟦<S as NodeConfigs<D>>⟧.of self.old.voter.node) self.old.voter self.new.voter }
         ensures needed { OnErr result (ConstructionNeeds
             (⟦<S as NodeConfigs<D>>⟧.of self.old.voter.node) self.old.voter) }
-        ensures refused { OnErr result (self.new.voter.node ≡ self.old.voter.node) }
-        ensures stays { OnErr result (VoterStays
+        ensures refused { OnErr result (VoterKeepsNode
             (⟦<S as NodeConfigs<D>>⟧.of self.old.voter.node) self.old.voter self.new.voter) }
-        ensures same { SameNode self.old.voter.node self.new.voter.node }
-        ensures contents { self.new.voter.journal.contents ≡ self.old.voter.journal.contents }
-        ensures open { self.new.voter.journal.is_open ≡ self.old.voter.journal.is_open }
-        ensures given { self.new.given ≡ self.old.given }
-        ensures shelf { self.new.shelf ≡ self.old.shelf }
-        ensures copied { KeepsCopy L.is_copied_as self.old.voter.journal.log
-            self.new.voter.journal.log }
+        ensures frame { OnlyVoter L.is_copied_as self.old self.new }
     {
         let waiting = self.shelf.waiting(self.voter.waits());
         self.voter.conclude(subject, list, verdicts, waiting)

@@ -1,20 +1,17 @@
 //! What is given to be done, once nobody is to be blocked and nothing is to be given as final.
 
-ghost use Rattle.std.specs.Prelude.{◌≡◌, ◌≤◌, ◌<◌, ◌+◌, ◌⊎◌, ◌^◌, [], IfNone, IfSome, MatchBool};
+ghost use Rattle.std.specs.Prelude.{◌≡◌, ◌≤◌, ◌<◌, ◌+◌, ◌⊎◌, [], IfNone, IfSome, MatchBool};
 ghost use Rattle.std.specs.Prelude.{None, Some, length, max, true, false};
 ghost use Rattle.std.specs.List.{slice_get};
 ghost use Rattle.batcher_journal.specs.Answers.{MayBeWrittenBehind};
 ghost use Rattle.batcher_node.specs.Nodes.{IsAtRest, IsNext};
-ghost use Rattle.batcher_validator.specs.Ending.{HasLessLeft};
+ghost use Rattle.batcher_validator.specs.Ending.{GivesDue, GivesMeanwhile, HasLessLeft};
 ghost use Rattle.batcher_validator.specs.Histories.{forward_with};
 ghost use Rattle.batcher_validator.specs.Posing.{BlocksNobody, CastsNone, EntersNone};
 ghost use Rattle.batcher_validator.specs.Posing.{IsPlaceToSend, SendsNone};
 ghost use Rattle.batcher_validator.specs.Queues.{AreDistinct};
 ghost use Rattle.batcher_validator.specs.Resending.{IsPlaceFrom};
-ghost use Rattle.batcher_validator.specs.Running.{ForEachRun, Gives, IsReadyTask, RunStays};
 ghost use Rattle.batcher_validator.specs.Shelves.{HaveNoFinal, IsAt, kind_and_round};
-ghost use Rattle.batcher_validator.specs.Tasks.{IsGivenMeanwhile, NothingIsDue};
-ghost use Rattle.batcher_validator.specs.Tasks.{NothingIsDueMeanwhile};
 ghost use Rattle.batcher_voter.specs.Voting.{BeginWithOneView, ForEachLife, IsNextView};
 
 use crate::tally::{Tally, place_from};
@@ -39,15 +36,8 @@ where
         requires begins { BeginWithOneView self.old.voter }
         requires nobody { BlocksNobody ⟦<S as NodeConfigs<D>>⟧.of self.old }
         requires no_final { HaveNoFinal self.old.given.announced self.old.shelf.certificates }
-        ensures gives { IfSome result
-            (Gives (⟦<S as NodeConfigs<D>>⟧.of self.old.voter.node) self.old self.new) }
-        ensures ready { IfSome result (IsReadyTask self.old) }
-        ensures nothing { result ≡ None → ForEachRun
-            (⟦<S as NodeConfigs<D>>⟧.of self.old.voter.node) self.old (λ past earlier.
-            NothingIsDue (⟦<S as NodeConfigs<D>>⟧.of self.old.voter.node) earlier past) }
-        ensures rests { result ≡ None
-            → RunStays (⟦<S as NodeConfigs<D>>⟧.of self.old.voter.node) self.old self.new }
-        ensures voter { self.new.voter ≡ self.old.voter }
+        ensures gives { GivesDue (⟦<S as NodeConfigs<D>>⟧.of self.old.voter.node) self.old
+            self.new result }
         ensures less { IfSome result
             (HasLessLeft (⟦<S as NodeConfigs<D>>⟧.of self.old.voter.node) self.old self.new) }
     {
@@ -81,15 +71,8 @@ where
             self.old.voter.journal.contents.votes }
         requires begins { BeginWithOneView self.old.voter }
         requires nobody { BlocksNobody ⟦<S as NodeConfigs<D>>⟧.of self.old }
-        ensures gives { IfSome result
-            (Gives (⟦<S as NodeConfigs<D>>⟧.of self.old.voter.node) self.old self.new) }
-        ensures ready { IfSome result (IsReadyTask self.old) }
-        ensures meanwhile { IfSome result IsGivenMeanwhile }
-        ensures nothing { result ≡ None → ForEachRun
-            (⟦<S as NodeConfigs<D>>⟧.of self.old.voter.node) self.old (λ past earlier.
-            NothingIsDueMeanwhile (⟦<S as NodeConfigs<D>>⟧.of self.old.voter.node) earlier past) }
-        ensures same { result ≡ None → self.new ≡ self.old }
-        ensures voter { self.new.voter ≡ self.old.voter }
+        ensures gives { GivesMeanwhile (⟦<S as NodeConfigs<D>>⟧.of self.old.voter.node) self.old
+            self.new result }
         ensures less { IfSome result
             (HasLessLeft (⟦<S as NodeConfigs<D>>⟧.of self.old.voter.node) self.old self.new) }
     {
@@ -115,15 +98,8 @@ where
         requires nobody { BlocksNobody ⟦<S as NodeConfigs<D>>⟧.of self.old }
         requires no_view { EntersNone self.old }
         requires no_cast { CastsNone self.old }
-        ensures gives { IfSome result
-            (Gives (⟦<S as NodeConfigs<D>>⟧.of self.old.voter.node) self.old self.new) }
-        ensures ready { IfSome result (IsReadyTask self.old) }
-        ensures meanwhile { IfSome result IsGivenMeanwhile }
-        ensures nothing { result ≡ None → ForEachRun
-            (⟦<S as NodeConfigs<D>>⟧.of self.old.voter.node) self.old (λ past earlier.
-            NothingIsDueMeanwhile (⟦<S as NodeConfigs<D>>⟧.of self.old.voter.node) earlier past) }
-        ensures same { result ≡ None → self.new ≡ self.old }
-        ensures voter { self.new.voter ≡ self.old.voter }
+        ensures gives { GivesMeanwhile (⟦<S as NodeConfigs<D>>⟧.of self.old.voter.node) self.old
+            self.new result }
         ensures less { IfSome result
             (HasLessLeft (⟦<S as NodeConfigs<D>>⟧.of self.old.voter.node) self.old self.new) }
     {
@@ -148,15 +124,8 @@ where
         requires no_view { EntersNone self.old }
         requires no_cast { CastsNone self.old }
         requires no_vote { SendsNone self.old }
-        ensures gives { IfSome result
-            (Gives (⟦<S as NodeConfigs<D>>⟧.of self.old.voter.node) self.old self.new) }
-        ensures ready { IfSome result (IsReadyTask self.old) }
-        ensures nothing { result ≡ None → ForEachRun
-            (⟦<S as NodeConfigs<D>>⟧.of self.old.voter.node) self.old (λ past earlier.
-            NothingIsDue (⟦<S as NodeConfigs<D>>⟧.of self.old.voter.node) earlier past) }
-        ensures rests { result ≡ None
-            → RunStays (⟦<S as NodeConfigs<D>>⟧.of self.old.voter.node) self.old self.new }
-        ensures voter { self.new.voter ≡ self.old.voter }
+        ensures gives { GivesDue (⟦<S as NodeConfigs<D>>⟧.of self.old.voter.node) self.old
+            self.new result }
         ensures less { IfSome result
             (HasLessLeft (⟦<S as NodeConfigs<D>>⟧.of self.old.voter.node) self.old self.new) }
     {
@@ -179,15 +148,8 @@ where
         requires no_cast { CastsNone self.old }
         requires no_vote { SendsNone self.old }
         requires no_forward { self.old.given.forwarding ≡ None }
-        ensures gives { IfSome result
-            (Gives (⟦<S as NodeConfigs<D>>⟧.of self.old.voter.node) self.old self.new) }
-        ensures ready { IfSome result (IsReadyTask self.old) }
-        ensures nothing { result ≡ None → ForEachRun
-            (⟦<S as NodeConfigs<D>>⟧.of self.old.voter.node) self.old (λ past earlier.
-            NothingIsDue (⟦<S as NodeConfigs<D>>⟧.of self.old.voter.node) earlier past) }
-        ensures rests { result ≡ None
-            → RunStays (⟦<S as NodeConfigs<D>>⟧.of self.old.voter.node) self.old self.new }
-        ensures voter { self.new.voter ≡ self.old.voter }
+        ensures gives { GivesDue (⟦<S as NodeConfigs<D>>⟧.of self.old.voter.node) self.old
+            self.new result }
         ensures less { IfSome result
             (HasLessLeft (⟦<S as NodeConfigs<D>>⟧.of self.old.voter.node) self.old self.new) }
     {

@@ -3,30 +3,28 @@
 ghost use Rattle.std.specs.Prelude.{◌≡◌, ◌≢◌, ◌<◌, ◌≤◌, ◌⊎◌, ◌∷◌, Err, IfOk, IfSome, None, Ok};
 ghost use Rattle.std.specs.Prelude.{◌+◌, ◌-◌, ◌*◌, ◌^◌, MatchBool, OnErr, OnOk, cond, false};
 ghost use Rattle.std.specs.Prelude.{is_some, length, map, max, min, nat_le, option_and_then, true};
+ghost use Rattle.std.specs.Prelude.{IfErr};
 ghost use Rattle.std.specs.List.{slice_get};
 ghost use Rattle.std.specs.Option.{option_map_or};
 ghost use Rattle.batcher.specs.Verifiers.{certifies_itself};
-ghost use Rattle.batcher.specs.Votes.{round_in, subject_certified, subject_of};
-ghost use Rattle.batcher.specs.calls.Call.TheVariants.{Network as NetworkCall};
+ghost use Rattle.batcher.specs.Votes.{round_in, subject_certified};
 ghost use Rattle.batcher_agreement.specs.Lives.{called, verified};
-ghost use Rattle.batcher_node.specs.Events.{certificate_came, constructed, view_entered, vote_came};
-ghost use Rattle.batcher_node.specs.Nodes.{IsAtRest, IsLedByAnother, IsNext, SameNode, cause_at};
-ghost use Rattle.batcher_node.specs.Nodes.{slot_at};
+ghost use Rattle.batcher_node.specs.Events.{certificate_came, constructed, view_entered};
+ghost use Rattle.batcher_node.specs.Events.{vote_came, forgery_came, peer_in};
+ghost use Rattle.batcher_node.specs.Nodes.{IsAtRest, IsNext, cause_at, WhyNotEntered};
 ghost use Rattle.batcher_node.specs.declared.answers.EnterFault.{EnterFault};
-ghost use Rattle.batcher_node.specs.Events.{forgery_came, peer_in};
-ghost use Rattle.batcher_node.specs.Represents.{IsHeard, MayNeedIn, ahead_answer};
+ghost use Rattle.batcher_node.specs.Represents.{ahead_answer, VoteMayNeed};
 ghost use Rattle.batcher_validator.specs.Absence.{is_given_up, is_sign, with_sign};
 ghost use Rattle.batcher_validator.specs.Running.{ForEachRun, HasConstructed, RunEnters, RunMeets};
-ghost use Rattle.batcher_validator.specs.Running.{RunStays, RunTakes};
-ghost use Rattle.batcher_validator.specs.Running.{CatchesUp, blocks_sender};
+ghost use Rattle.batcher_validator.specs.Running.{RunStays, RunTakes, CatchesUp, blocks_sender};
+ghost use Rattle.batcher_validator.specs.Running.{SameRun, OnlyVoter, RunKeepsNode};
 ghost use Rattle.batcher_validator.specs.Shelves.{Shelves};
 ghost use Rattle.batcher_validator.specs.Histories.{answered, did};
 ghost use Rattle.batcher_voter.specs.Keeping.{IsKnownAlready};
 ghost use Rattle.batcher_voter.specs.Knowledge.{HasRoom};
 ghost use Rattle.batcher_voter.specs.Needing.{CertificateNeeds, ConstructionNeeds};
 ghost use Rattle.batcher_voter.specs.Voting.{BeginWithOneView, ForEachLife, IsVoting, VoterMeets};
-ghost use Rattle.batcher_voter.specs.Voting.{VoterStays};
-ghost use Rattle.batcher_voter.specs.Voting.{was_recorded};
+ghost use Rattle.batcher_voter.specs.Voting.{VoterStays, was_recorded, VoterKeepsNode};
 ghost use Rattle.batcher_bytes.specs.Copies.{KeepsCopy};
 
 use crate::polling::cause_of;
@@ -58,14 +56,10 @@ where
         ensures meets { IfOk result (λ receipt. RunMeets
             (⟦<S as NodeConfigs<D>>⟧.of self.old.voter.node) self.old self.new
             (did (called (vote_came peer vote receipt)))) }
-        ensures heard { OnErr result (IsHeard (⟦<S as NodeConfigs<D>>⟧.of self.old.voter.node)
-            self.old.voter.node peer (round_in (subject_of vote))) }
-        ensures needed { OnErr result (MayNeedIn (⟦<S as NodeConfigs<D>>⟧.of self.old.voter.node)
-            self.old.voter.node (round_in (subject_of vote)).view.0 (NetworkCall peer vote)) }
+        ensures needed { OnErr result (VoteMayNeed
+            (⟦<S as NodeConfigs<D>>⟧.of self.old.voter.node) self.old.voter.node peer vote) }
         ensures refused { OnErr result (self.new ≡ self.old) }
-        ensures same { SameNode self.old.voter.node self.new.voter.node }
-        ensures copied { KeepsCopy L.is_copied_as self.old.voter.journal.log
-            self.new.voter.journal.log }
+        ensures frame { SameRun L.is_copied_as self.old self.new }
     {
         let who = self.sender(&peer);
         match self.call_vote(peer, vote) {
@@ -118,18 +112,10 @@ where
         ensures meets { IfOk result (λ receipt. VoterMeets
             (⟦<S as NodeConfigs<D>>⟧.of self.old.voter.node) self.old.voter self.new.voter
             (vote_came peer vote receipt)) }
-        ensures heard { OnErr result (IsHeard (⟦<S as NodeConfigs<D>>⟧.of self.old.voter.node)
-            self.old.voter.node peer (round_in (subject_of vote))) }
-        ensures needed { OnErr result (MayNeedIn (⟦<S as NodeConfigs<D>>⟧.of self.old.voter.node)
-            self.old.voter.node (round_in (subject_of vote)).view.0 (NetworkCall peer vote)) }
+        ensures needed { OnErr result (VoteMayNeed
+            (⟦<S as NodeConfigs<D>>⟧.of self.old.voter.node) self.old.voter.node peer vote) }
         ensures refused { OnErr result (self.new ≡ self.old) }
-        ensures same { SameNode self.old.voter.node self.new.voter.node }
-        ensures contents { self.new.voter.journal.contents ≡ self.old.voter.journal.contents }
-        ensures open { self.new.voter.journal.is_open ≡ self.old.voter.journal.is_open }
-        ensures given { self.new.given ≡ self.old.given }
-        ensures shelf { self.new.shelf ≡ self.old.shelf }
-        ensures copied { KeepsCopy L.is_copied_as self.old.voter.journal.log
-            self.new.voter.journal.log }
+        ensures frame { OnlyVoter L.is_copied_as self.old self.new }
     {
         self.voter.receive_vote(peer, vote)
     }
@@ -146,12 +132,9 @@ where
             (did (called (certificate_came peer certificate receipt)))) }
         ensures needed { OnErr result ((self.old.shelf.room ≡ 0) ⊎ CertificateNeeds
             (⟦<S as NodeConfigs<D>>⟧.of self.old.voter.node) self.old.voter peer certificate) }
-        ensures refused { OnErr result (self.new.voter.node ≡ self.old.voter.node) }
-        ensures stays { OnErr result
-            (RunStays (⟦<S as NodeConfigs<D>>⟧.of self.old.voter.node) self.old self.new) }
-        ensures same { SameNode self.old.voter.node self.new.voter.node }
-        ensures copied { KeepsCopy L.is_copied_as self.old.voter.journal.log
-            self.new.voter.journal.log }
+        ensures refused { OnErr result
+            (RunKeepsNode (⟦<S as NodeConfigs<D>>⟧.of self.old.voter.node) self.old self.new) }
+        ensures frame { SameRun L.is_copied_as self.old self.new }
     {
         match self.make_room() {
             Ok(()) => match self.receive_with_room(peer, certificate) {
@@ -178,12 +161,9 @@ where
             (did (called (certificate_came peer certificate receipt)))) }
         ensures needed { OnErr result (CertificateNeeds
             (⟦<S as NodeConfigs<D>>⟧.of self.old.voter.node) self.old.voter peer certificate) }
-        ensures refused { OnErr result (self.new.voter.node ≡ self.old.voter.node) }
-        ensures stays { OnErr result
-            (RunStays (⟦<S as NodeConfigs<D>>⟧.of self.old.voter.node) self.old self.new) }
-        ensures same { SameNode self.old.voter.node self.new.voter.node }
-        ensures copied { KeepsCopy L.is_copied_as self.old.voter.journal.log
-            self.new.voter.journal.log }
+        ensures refused { OnErr result
+            (RunKeepsNode (⟦<S as NodeConfigs<D>>⟧.of self.old.voter.node) self.old self.new) }
+        ensures frame { SameRun L.is_copied_as self.old self.new }
     {
         senders_of_votes_to_send_are_never_blocked::<S, D>();
         self.begins();
@@ -252,16 +232,9 @@ where
         ensures needed { OnErr result (CertificateNeeds
             (⟦<S as NodeConfigs<D>>⟧.of self.old.voter.node) self.old.voter peer
             certificate.now) }
-        ensures refused { OnErr result (self.new.voter.node ≡ self.old.voter.node) }
-        ensures stays { OnErr result (VoterStays
+        ensures refused { OnErr result (VoterKeepsNode
             (⟦<S as NodeConfigs<D>>⟧.of self.old.voter.node) self.old.voter self.new.voter) }
-        ensures same { SameNode self.old.voter.node self.new.voter.node }
-        ensures contents { self.new.voter.journal.contents ≡ self.old.voter.journal.contents }
-        ensures open { self.new.voter.journal.is_open ≡ self.old.voter.journal.is_open }
-        ensures given { self.new.given ≡ self.old.given }
-        ensures shelf { self.new.shelf ≡ self.old.shelf }
-        ensures copied { KeepsCopy L.is_copied_as self.old.voter.journal.log
-            self.new.voter.journal.log }
+        ensures frame { OnlyVoter L.is_copied_as self.old self.new }
     {
         self.voter.receive_certificate(peer, certificate)
     }
@@ -289,11 +262,10 @@ where
         ensures needed { OnErr result ((self.old.shelf.room ≡ 0)
             ⊎ (HasRoom self.old.voter.knowledge (round_in (subject_certified certificate)).view.0
             → IsKnownAlready self.old.voter.knowledge (subject_certified certificate) → ⊥)) }
-        ensures stays { OnErr result
-            (RunStays (⟦<S as NodeConfigs<D>>⟧.of self.old.voter.node) self.old self.new) }
+        ensures refused { OnErr result
+            (RunKeepsNode (⟦<S as NodeConfigs<D>>⟧.of self.old.voter.node) self.old self.new) }
         ensures node { self.new.voter.node
             ≡ record self.old.voter.node { blocked = self.new.voter.node.blocked } }
-        ensures refused { OnErr result (self.new.voter.node ≡ self.old.voter.node) }
         ensures copied { KeepsCopy L.is_copied_as self.old.voter.journal.log
             self.new.voter.journal.log }
     {
@@ -451,12 +423,9 @@ where
         ensures answered { result ≡ Ok false
             → RunMeets (⟦<S as NodeConfigs<D>>⟧.of self.old.voter.node) self.old self.new
             answered }
-        ensures refused { OnErr result (self.new.voter.node ≡ self.old.voter.node) }
-        ensures stays { OnErr result
-            (RunStays (⟦<S as NodeConfigs<D>>⟧.of self.old.voter.node) self.old self.new) }
-        ensures same { SameNode self.old.voter.node self.new.voter.node }
-        ensures copied { KeepsCopy L.is_copied_as self.old.voter.journal.log
-            self.new.voter.journal.log }
+        ensures refused { OnErr result
+            (RunKeepsNode (⟦<S as NodeConfigs<D>>⟧.of self.old.voter.node) self.old self.new) }
+        ensures frame { SameRun L.is_copied_as self.old self.new }
     {
         match self.make_room() {
             Ok(()) => match self.construct_with_room(rng) {
@@ -479,12 +448,9 @@ where
         ensures answered { result ≡ Ok false
             → RunMeets (⟦<S as NodeConfigs<D>>⟧.of self.old.voter.node) self.old self.new
             answered }
-        ensures refused { OnErr result (self.new.voter.node ≡ self.old.voter.node) }
-        ensures stays { OnErr result
-            (RunStays (⟦<S as NodeConfigs<D>>⟧.of self.old.voter.node) self.old self.new) }
-        ensures same { SameNode self.old.voter.node self.new.voter.node }
-        ensures copied { KeepsCopy L.is_copied_as self.old.voter.journal.log
-            self.new.voter.journal.log }
+        ensures refused { OnErr result
+            (RunKeepsNode (⟦<S as NodeConfigs<D>>⟧.of self.old.voter.node) self.old self.new) }
+        ensures frame { SameRun L.is_copied_as self.old self.new }
     {
         senders_of_votes_to_send_are_never_blocked::<S, D>();
         self.begins();
@@ -543,16 +509,9 @@ where
             → (self.new ≡ self.old) × IsAtRest self.old.voter.node }
         ensures needed { OnErr result (ConstructionNeeds
             (⟦<S as NodeConfigs<D>>⟧.of self.old.voter.node) self.old.voter) }
-        ensures refused { OnErr result (self.new.voter.node ≡ self.old.voter.node) }
-        ensures stays { OnErr result (VoterStays
+        ensures refused { OnErr result (VoterKeepsNode
             (⟦<S as NodeConfigs<D>>⟧.of self.old.voter.node) self.old.voter self.new.voter) }
-        ensures same { SameNode self.old.voter.node self.new.voter.node }
-        ensures contents { self.new.voter.journal.contents ≡ self.old.voter.journal.contents }
-        ensures open { self.new.voter.journal.is_open ≡ self.old.voter.journal.is_open }
-        ensures given { self.new.given ≡ self.old.given }
-        ensures shelf { self.new.shelf ≡ self.old.shelf }
-        ensures copied { KeepsCopy L.is_copied_as self.old.voter.journal.log
-            self.new.voter.journal.log }
+        ensures frame { OnlyVoter L.is_copied_as self.old self.new }
     {
         let waiting = self.shelf.waiting(self.voter.waits());
         self.voter.try_construct(rng, waiting)
@@ -566,16 +525,9 @@ where
             view.0 leader self.old self.new) }
         ensures passed { view.0 < self.old.voter.node.window.finalized
             → result ≡ Err EnterFault.Passed }
-        ensures not_passed { result ≡ Err EnterFault.Passed
-            → view.0 < self.old.voter.node.window.finalized }
-        ensures led { result ≡ Err EnterFault.LeaderChanged
-            → IsLedByAnother (slot_at self.old.voter.node.rounds view.0) leader }
-        ensures needed { result ≡ Err EnterFault.OutOfMemory
-            → slot_at self.old.voter.node.rounds view.0 ≡ None }
+        ensures why { IfErr result (WhyNotEntered self.old.voter.node view.0 leader) }
         ensures refused { OnErr result (self.new ≡ self.old) }
-        ensures same { SameNode self.old.voter.node self.new.voter.node }
-        ensures copied { KeepsCopy L.is_copied_as self.old.voter.journal.log
-            self.new.voter.journal.log }
+        ensures frame { SameRun L.is_copied_as self.old self.new }
     {
         let is_over = self.gives_up(leader);
         match self.call_enter(view, leader) {
@@ -649,20 +601,9 @@ where
             self.old.voter self.new.voter (view_entered view.0 leader)) }
         ensures passed { view.0 < self.old.voter.node.window.finalized
             → result ≡ Err EnterFault.Passed }
-        ensures not_passed { result ≡ Err EnterFault.Passed
-            → view.0 < self.old.voter.node.window.finalized }
-        ensures led { result ≡ Err EnterFault.LeaderChanged
-            → IsLedByAnother (slot_at self.old.voter.node.rounds view.0) leader }
-        ensures needed { result ≡ Err EnterFault.OutOfMemory
-            → slot_at self.old.voter.node.rounds view.0 ≡ None }
+        ensures why { IfErr result (WhyNotEntered self.old.voter.node view.0 leader) }
         ensures refused { OnErr result (self.new ≡ self.old) }
-        ensures same { SameNode self.old.voter.node self.new.voter.node }
-        ensures contents { self.new.voter.journal.contents ≡ self.old.voter.journal.contents }
-        ensures open { self.new.voter.journal.is_open ≡ self.old.voter.journal.is_open }
-        ensures given { self.new.given ≡ self.old.given }
-        ensures shelf { self.new.shelf ≡ self.old.shelf }
-        ensures copied { KeepsCopy L.is_copied_as self.old.voter.journal.log
-            self.new.voter.journal.log }
+        ensures frame { OnlyVoter L.is_copied_as self.old self.new }
     {
         self.voter.enter(view, leader)
     }

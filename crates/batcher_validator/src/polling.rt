@@ -1,22 +1,21 @@
 //! Which task is given next, and that they come to an end.
 
-ghost use Rattle.std.specs.Prelude.{◌≡◌, ◌≤◌, ◌<◌, ◌+◌, ◌*◌, ◌⊎◌, ◌^◌, ◌++◌, [], Contains, Err};
-ghost use Rattle.std.specs.Prelude.{IfOk, IfNone, IfSome, MatchBool, None, Ok, OnErr, Some, length};
+ghost use Rattle.std.specs.Prelude.{◌≡◌, ◌≤◌, ◌<◌, ◌+◌, ◌*◌, ◌⊎◌, ◌++◌, [], Contains, Err};
+ghost use Rattle.std.specs.Prelude.{IfOk, IfSome, None, Ok, OnErr, Some, length};
 ghost use Rattle.std.specs.Prelude.{set, true, false, List, ℕ};
 ghost use Rattle.std.specs.List.{slice_get};
 ghost use Rattle.batcher_bytes.specs.Messages.{certificate_format, vote_format};
 ghost use Rattle.batcher_journal.specs.Answers.{MayBeWrittenBehind};
 ghost use Rattle.batcher.specs.messages.Kind.{Kind as TheKind};
 ghost use Rattle.batcher.specs.positions.Round.{Round as TheRound};
-ghost use Rattle.batcher_node.specs.Nodes.{IsAtRest, IsNext, NodeConfig, SameNode, cause_at};
-ghost use Rattle.batcher_validator.specs.Ending.{GivesOnAndOn, HasLessLeft};
+ghost use Rattle.batcher_node.specs.Nodes.{NodeConfig, cause_at};
+ghost use Rattle.batcher_validator.specs.Ending.{GivesOnAndOn, GivesTask, HasLessLeft};
 ghost use Rattle.batcher_validator.specs.Posing.{BlocksNobody};
-ghost use Rattle.batcher_validator.specs.Running.{ForEachRun, Gives, IsReadyTask};
-ghost use Rattle.batcher_validator.specs.Running.{RunLeaves};
-ghost use Rattle.batcher_validator.specs.Running.{RunMeets, RunStays, ValidatorView};
+ghost use Rattle.batcher_validator.specs.Running.{ForEachRun, RunLeaves, RunMeets, RunStays};
+ghost use Rattle.batcher_validator.specs.Running.{ValidatorView, SameRun};
 ghost use Rattle.batcher_validator.specs.Resending.{IsPlaceFrom, is_again, still_to_forward};
 ghost use Rattle.batcher_validator.specs.Resending.{turn_at};
-ghost use Rattle.batcher_validator.specs.Shelves.{HaveNoFinal, IsAt, IsFinalAt, IsLowestFinal};
+ghost use Rattle.batcher_validator.specs.Shelves.{HaveNoFinal, IsFinalAt, IsLowestFinal};
 ghost use Rattle.batcher_validator.specs.Shelves.{IsToAnnounce, PutsBehind, kind_and_round};
 ghost use Rattle.batcher_validator.specs.declared.task.PollFault.{PollFault};
 ghost use Rattle.batcher_validator.specs.Histories.{HasHanded, ValidatorHistory, again, gave};
@@ -30,8 +29,7 @@ ghost use Rattle.batcher_validator.specs.Disks.{with_write_done, with_write_give
 ghost use Rattle.batcher_validator.specs.Unsigned.{nothing_unsigned};
 ghost use Rattle.batcher.specs.Verifiers.{certifies_itself};
 ghost use Rattle.batcher_voter.specs.Unstarted.{LeavesReadable};
-ghost use Rattle.batcher_voter.specs.Voting.{BeginWithOneView, ForEachLife, IsNextView};
-ghost use Rattle.batcher_bytes.specs.Copies.{KeepsCopy};
+ghost use Rattle.batcher_voter.specs.Voting.{BeginWithOneView};
 
 use crate::resending::{Resending, still_to_forward, turn_at};
 use crate::tally::{Tally, place_from};
@@ -55,8 +53,10 @@ where
     /// the disk. A refusal for memory leaves all as it was: poll again.
     pub fn poll(&mut self) -> Result<Option<Task<S::Signature, D>>, PollFault>
         ensures gives { IfOk result (λ given. IfSome given
-            (Gives (⟦<S as NodeConfigs<D>>⟧.of self.old.voter.node) self.old self.new)) }
-        ensures ready { IfOk result (λ given. IfSome given (IsReadyTask self.old)) }
+            (GivesTask (⟦<S as NodeConfigs<D>>⟧.of self.old.voter.node) self.old self.new)) }
+        // So it comes to an end: see `poll_comes_to_an_end`.
+        ensures less { IfOk result (λ given. IfSome given
+            (HasLessLeft (⟦<S as NodeConfigs<D>>⟧.of self.old.voter.node) self.old self.new)) }
         ensures nothing { result ≡ Ok None → ForEachRun
             (⟦<S as NodeConfigs<D>>⟧.of self.old.voter.node) self.old
             (λ past earlier. NothingIsDue (⟦<S as NodeConfigs<D>>⟧.of self.old.voter.node)
@@ -75,14 +75,9 @@ where
         ensures too_long { result ≡ Err PollFault.Full → IsTooLongToAnnounce
             (vote_format S.Signature.format D.format)
             (certificate_format S.Certificate.format D.format) L.is_too_small self.old }
-        // So it comes to an end: see `poll_comes_to_an_end`.
-        ensures less { IfOk result (λ given. IfSome given
-            (HasLessLeft (⟦<S as NodeConfigs<D>>⟧.of self.old.voter.node) self.old self.new)) }
         ensures leaves { RunLeaves (⟦<S as NodeConfigs<D>>⟧.of self.old.voter.node)
             (vote_format S.Signature.format D.format) L.is_honest L.may_leave self.old self.new }
-        ensures same { SameNode self.old.voter.node self.new.voter.node }
-        ensures copied { KeepsCopy L.is_copied_as self.old.voter.journal.log
-            self.new.voter.journal.log }
+        ensures frame { SameRun L.is_copied_as self.old self.new }
     {
         self.leaves_what_was_done();
         if !self.is_open() {
@@ -105,8 +100,9 @@ where
     /// left.
     pub fn poll_meanwhile(&mut self) -> Result<Option<Task<S::Signature, D>>, PollFault>
         ensures gives { IfOk result (λ given. IfSome given
-            (Gives (⟦<S as NodeConfigs<D>>⟧.of self.old.voter.node) self.old self.new)) }
-        ensures ready { IfOk result (λ given. IfSome given (IsReadyTask self.old)) }
+            (GivesTask (⟦<S as NodeConfigs<D>>⟧.of self.old.voter.node) self.old self.new)) }
+        ensures less { IfOk result (λ given. IfSome given
+            (HasLessLeft (⟦<S as NodeConfigs<D>>⟧.of self.old.voter.node) self.old self.new)) }
         ensures meanwhile { IfOk result (λ given. IfSome given IsGivenMeanwhile) }
         ensures nothing { result ≡ Ok None → ForEachRun
             (⟦<S as NodeConfigs<D>>⟧.of self.old.voter.node) self.old
@@ -116,8 +112,6 @@ where
         ensures closed { OnErr result ((result ≡ Err PollFault.Closed)
             × ((self.old.voter.journal.is_open ≡ false) × (self.new ≡ self.old))) }
         ensures voter { self.new.voter ≡ self.old.voter }
-        ensures less { IfOk result (λ given. IfSome given
-            (HasLessLeft (⟦<S as NodeConfigs<D>>⟧.of self.old.voter.node) self.old self.new)) }
     {
         if !self.is_open() {
             return Err(PollFault::Closed);

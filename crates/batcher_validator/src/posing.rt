@@ -1,8 +1,7 @@
 //! What a validator votes for, proposes and judges.
 
 ghost use Rattle.std.specs.Prelude.{◌≡◌, ◌≤◌, ◌<◌, ◌⊎◌, ◌++◌, ◌+◌, IfSome, IsTrue, MatchBool};
-ghost use Rattle.std.specs.Prelude.{None};
-ghost use Rattle.std.specs.Prelude.{Some, ℕ, true, false};
+ghost use Rattle.std.specs.Prelude.{None, Some, true, false};
 ghost use Rattle.std.specs.List.{list_any};
 ghost use Rattle.batcher.specs.Votes.{round_in, same_round, subject_of};
 ghost use Rattle.batcher.specs.messages.Proposal.{Proposal as TheProposal};
@@ -14,15 +13,15 @@ ghost use Rattle.batcher_agreement.specs.Policy.{IsGrounded, Knows};
 ghost use Rattle.batcher_journal.specs.Contradictions.{IsFree};
 ghost use Rattle.batcher_node.specs.Windows.{is_of, numbered};
 ghost use Rattle.batcher_validator.specs.Decisions.{AreDecided, HasDecided};
-ghost use Rattle.batcher_validator.specs.Ending.{IsPreferred, HasLessLeft, WaitsForVote};
+ghost use Rattle.batcher_validator.specs.Ending.{IsPreferred, WaitsForVote, GivesTask};
+ghost use Rattle.batcher_validator.specs.Ending.{HasLessLeft};
 ghost use Rattle.batcher_validator.specs.Histories.{conduct_in};
 ghost use Rattle.batcher_validator.specs.Posing.{CanLead, CanPose, CanSign, CanVote, CannotLead};
 ghost use Rattle.batcher_validator.specs.Posing.{CannotPose, CannotSign, CannotVote, Grounds};
-ghost use Rattle.batcher_validator.specs.Posing.{HasCast, HasNotCast};
-ghost use Rattle.batcher_validator.specs.Posing.{IsLeader, IsNotToJudge, IsNotToPropose};
-ghost use Rattle.batcher_validator.specs.Posing.{IsNotToSign, IsProposalNow, IsProposed, IsToSign};
-ghost use Rattle.batcher_validator.specs.Posing.{Signs, SignsNothing};
-ghost use Rattle.batcher_validator.specs.Running.{ForEachRun, Gives, IsReadyTask, RunStays};
+ghost use Rattle.batcher_validator.specs.Posing.{HasCast, HasNotCast, IsLeader, IsNotToJudge};
+ghost use Rattle.batcher_validator.specs.Posing.{IsNotToPropose, IsNotToSign, IsProposalNow};
+ghost use Rattle.batcher_validator.specs.Posing.{IsProposed, IsToSign, Signs, SignsNothing};
+ghost use Rattle.batcher_validator.specs.Running.{ForEachRun, RunStays};
 ghost use Rattle.batcher_validator.specs.Tasks.{IsGivenMeanwhile, MaySign, MayVote};
 ghost use Rattle.batcher_validator.specs.Tasks.{NothingIsProposed, NothingIsToSign};
 ghost use Rattle.batcher_validator.specs.Unsigned.{is_unsigned};
@@ -50,8 +49,9 @@ where
     pub(crate) fn pose(&mut self) -> Option<Task<S::Signature, D>>
         requires { self.old.voter.journal.is_open ≡ true }
         ensures gives { IfSome result
-            (Gives (⟦<S as NodeConfigs<D>>⟧.of self.old.voter.node) self.old self.new) }
-        ensures ready { IfSome result (IsReadyTask self.old) }
+            (GivesTask (⟦<S as NodeConfigs<D>>⟧.of self.old.voter.node) self.old self.new) }
+        ensures less { IfSome result
+            (HasLessLeft (⟦<S as NodeConfigs<D>>⟧.of self.old.voter.node) self.old self.new) }
         ensures signs { result ≡ None → ForEachRun
             (⟦<S as NodeConfigs<D>>⟧.of self.old.voter.node) self.old (λ past earlier.
             NothingIsToSign (⟦<S as NodeConfigs<D>>⟧.of self.old.voter.node) earlier past) }
@@ -60,8 +60,6 @@ where
             NothingIsProposed (⟦<S as NodeConfigs<D>>⟧.of self.old.voter.node) earlier past) }
         ensures same { result ≡ None → self.new ≡ self.old }
         ensures voter { self.new.voter ≡ self.old.voter }
-        ensures less { IfSome result
-            (HasLessLeft (⟦<S as NodeConfigs<D>>⟧.of self.old.voter.node) self.old self.new) }
     {
         match self.next_to_sign() {
             Some(subject) => {
@@ -76,16 +74,15 @@ where
     pub(crate) fn pose_proposal(&mut self) -> Option<Task<S::Signature, D>>
         requires { self.old.voter.journal.is_open ≡ true }
         ensures gives { IfSome result
-            (Gives (⟦<S as NodeConfigs<D>>⟧.of self.old.voter.node) self.old self.new) }
-        ensures ready { IfSome result (IsReadyTask self.old) }
+            (GivesTask (⟦<S as NodeConfigs<D>>⟧.of self.old.voter.node) self.old self.new) }
+        ensures less { IfSome result
+            (HasLessLeft (⟦<S as NodeConfigs<D>>⟧.of self.old.voter.node) self.old self.new) }
         ensures meanwhile { IfSome result IsGivenMeanwhile }
         ensures nothing { result ≡ None → ForEachRun
             (⟦<S as NodeConfigs<D>>⟧.of self.old.voter.node) self.old (λ past earlier.
             NothingIsProposed (⟦<S as NodeConfigs<D>>⟧.of self.old.voter.node) earlier past) }
         ensures same { result ≡ None → self.new ≡ self.old }
         ensures voter { self.new.voter ≡ self.old.voter }
-        ensures less { IfSome result
-            (HasLessLeft (⟦<S as NodeConfigs<D>>⟧.of self.old.voter.node) self.old self.new) }
     {
         match self.next_to_propose() {
             Some((view, parent)) => {

@@ -1,7 +1,7 @@
 //! A validator: a voter, with what it gave to be done.
 
-ghost use Rattle.std.specs.Prelude.{◌≡◌, ◌≤◌, ◌<◌, ◌⊎◌, ◌^◌, [], All, false, Contains, IfErr, IfOk};
-ghost use Rattle.std.specs.Prelude.{IfSome, None, length, take};
+ghost use Rattle.std.specs.Prelude.{◌≡◌, ◌≤◌, ◌<◌, ◌⊎◌, ◌^◌, [], All, false, Contains, IfErr};
+ghost use Rattle.std.specs.Prelude.{IfOk, IfSome, None, length, take};
 ghost use Rattle.batcher.specs.Verifiers.{certifies_itself};
 ghost use Rattle.batcher_agreement.specs.Policy.{Conduct, KeepsPolicy};
 ghost use Rattle.batcher_bytes.specs.Messages.{certificate_format};
@@ -12,6 +12,7 @@ ghost use Rattle.batcher_validator.specs.Unsigned.{nothing_unsigned};
 ghost use Rattle.batcher_voter.specs.Remembering.{Remembers};
 ghost use Rattle.batcher_voter.specs.Reopening.{IsFinalView, IsTakenIn};
 ghost use Rattle.batcher_voter.specs.Unstarted.{WhyNotStarted, all_in};
+ghost use Rattle.batcher_voter.specs.Voting.{IsMadeOf};
 
 use crate::decided::Decided;
 use crate::presence::Presence;
@@ -161,16 +162,8 @@ where
         ensures knows_kept { IfOk result (λ validator. All (IsTakenIn
             (certificate_format S.Certificate.format D.format) validator.voter.node.epoch
             validator.voter.knowledge) journal.contents.certificates) }
-        ensures scheme { IfOk result (λ it. it.voter.node.scheme ≡ scheme.value) }
-        ensures epoch { IfOk result (λ it.
-            it.voter.node.epoch ≡ journal.contents.floor.epoch) }
-        ensures retains { IfOk result (λ it. it.voter.node.retains ≡ track_historical_votes) }
-        ensures window { IfOk result (λ it. it.voter.node.window ≡ record {
-          finalized = journal.contents.floor.view.0;
-          current = journal.contents.floor.view.0;
-          ahead = ahead;
-        }) }
-        ensures journal { IfOk result (λ it. it.voter.journal ≡ journal) }
+        ensures made { IfOk result (λ it.
+            IsMadeOf scheme.value ahead track_historical_votes journal it.voter) }
         ensures refused { IfErr result (λ it. it.journal ≡ journal) }
         ensures why { IfErr result (λ it. WhyNotStarted
             (certificate_format S.Certificate.format D.format) (all_in journal)

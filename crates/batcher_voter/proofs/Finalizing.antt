@@ -1,7 +1,11 @@
 -- A voter goes on with a final view.
+use Rattle.batcher_voter.proofs.Words.{◌<◌, ◌≢◌, ◌⊎◌, ◌∙◌, ap, false, kind_certified, subst, certifies_itself, CopyView, Err, Finalization, Format, IfErr, List}
+use Rattle.batcher_voter.proofs.Words.{Ok, Result, ⊤, ℕ, Vote}
+use Rattle.batcher_voter.proofs.Words.{FinalizeFault, ForgedFinalization, IsTooLongToFinalize, NoMemoryToFinalize, NotOfEpoch, NotOpenToFinalize, Passed}
+use Rattle.batcher_voter.proofs.Words.{TooLong, WhyNotFinalized}
 use Rattle.batcher_voter.proofs.Words.{◌≡◌, ◌++◌, ◌∙◌, ℕ, List, true, false, ◌∷◌, arith, sym, certifies_itself, round_in, subject_certified, Certificate, Round}
 use Rattle.batcher_voter.proofs.Words.{VoterHistory, called, conduct_of, verified, Conduct, is_below, raised, Certified, Contents, OwnerFields, view_finalized}
-use Rattle.batcher_voter.proofs.Words.{NodeConfig, NodeMeets, Forgets, KnowledgeView, Learns, Remembers, IsVoting, VoterView}
+use Rattle.batcher_voter.proofs.Words.{NodeConfig, NodeMeets, NodeView, Forgets, KnowledgeView, Learns, Remembers, IsVoting, VoterView}
 use Rattle.batcher_voter.proofs.Calling.{remembers_learned}
 use Rattle.batcher_voter.proofs.Grounding.{highest_from, highest_more, learned_from, learned_more}
 use Rattle.batcher_voter.proofs.Writing.{are_there_from, no_others_from}
@@ -55,3 +59,37 @@ module _ {S D K G C L : Type 0} (x : NodeConfig D K G C) (old new : VoterView S 
             (remembers_raised (conduct_of past ++ earlier) old.journal.contents old.journal.unwritten
             old.journal.contents.owner (round_in (subject_certified c)) finalization up (is.remembers is_open)));
       }
+
+-- Why its view isn't made the final one is said as well of a voter of the same node and journal.
+pub why_still_not_final :
+    {S D K G C L : Type 0} (config : NodeView S G D → NodeConfig D K G C)
+    (votes : Format (Vote G D)) (certificates : Format (Certificate C D))
+    (is_too_small : L → List ℕ → Type 0) (is_honest : L → Type 0) (may_leave : L → List ℕ → Type 0)
+    (is_copied_as : L → CopyView → Type 0) (old mid : VoterView S G D L)
+    (node : mid.node ≡ old.node) (journal : mid.journal ≡ old.journal)
+    (certificate : Certificate C D) (new : VoterView S G D L) (result : Result ⊤ FinalizeFault)
+    → IfErr result (WhyNotFinalized (config mid.node) votes certificates is_too_small is_honest
+    may_leave is_copied_as mid certificate new)
+    → IfErr result (WhyNotFinalized (config old.node) votes certificates is_too_small is_honest
+    may_leave is_copied_as old certificate new)
+why_still_not_final config votes certificates is_too_small is_honest may_leave is_copied_as old mid node
+    journal certificate new (Ok done) why = tt
+why_still_not_final config votes certificates is_too_small is_honest may_leave is_copied_as old mid node
+    journal certificate new (Err NoMemoryToFinalize) why = why ∙ ap (λ j. j.is_open) journal
+why_still_not_final config votes certificates is_too_small is_honest may_leave is_copied_as old mid node
+    journal certificate new (Err TooLong) why = (
+      why.0 ∙ ap (λ j. j.is_open) journal,
+      subst (λ j. IsTooLongToFinalize votes certificates is_too_small certificate j) journal why.1,
+    )
+why_still_not_final config votes certificates is_too_small is_honest may_leave is_copied_as old mid node
+    journal certificate new (Err NotOfEpoch) why =
+    subst (λ n. (kind_certified certificate ≢ Finalization)
+    ⊎ ((round_in (subject_certified certificate)).epoch ≢ (config n).epoch)) node why
+why_still_not_final config votes certificates is_too_small is_honest may_leave is_copied_as old mid node
+    journal certificate new (Err Passed) why =
+    subst (λ n. (round_in (subject_certified certificate)).view.0 < n.window.finalized) node why
+why_still_not_final config votes certificates is_too_small is_honest may_leave is_copied_as old mid node
+    journal certificate new (Err ForgedFinalization) why =
+    subst (λ n. certifies_itself (config n).meaning certificate ≡ false) node why
+why_still_not_final config votes certificates is_too_small is_honest may_leave is_copied_as old mid node
+    journal certificate new (Err NotOpenToFinalize) why = why

@@ -2,6 +2,7 @@
 use Rattle.batcher_voter.proofs.Words.{◌≡◌, ◌≢◌, ◌++◌, [], ◌∷◌, ◌∙◌, Bool, true, ap, subst, sym, Contains, inl, inr, ⊎_elim, round_in, signer_of, subject_of}
 use Rattle.batcher_voter.proofs.Words.{Subject, Vote, VoterHistory, conduct_of, Conduct, IsFree, Contents, NodeConfig, NodeView, KnowledgeView, IsRefused}
 use Rattle.batcher_voter.proofs.Words.{RestsOnLearned, ForEachLife, IsVoting, MayGain, Permits, Says, VoterStays, VoterView, WhyNotCast, WhyNotShown, CastFault}
+use Rattle.batcher_voter.proofs.Words.{ℕ, List, Ok, Err, Result, ⊤, CopyView, Format, HasNoRoomFor, KeepsCopy, WritesVote}
 use Rattle.batcher_voter.proofs.Words.{NotOpen, Excluded, NoRoom, NotOwn, NoMemory, RefusedBy, Signed, Sign, RefusedVote, is_of}
 
 module _ {S D K G C L : Type 0} (x : NodeConfig D K G C) (old new : VoterView S G D L)
@@ -110,3 +111,48 @@ module _ {S D K G C L : Type 0} (x : NodeConfig D K G C) (same : D → D → Boo
               it.1.1,
         ),
       )
+
+-- A vote that is written then is written.
+pub written_still :
+    {S D K G C L : Type 0} (x : NodeConfig D K G C) (same : D → D → Bool)
+    (format : Format (Vote G D)) (is_full : L → List ℕ → Type 0) (is_honest : L → Type 0)
+    (may_leave : L → List ℕ → Type 0) (is_copied_as : L → CopyView → Type 0)
+    (old mid : VoterView S G D L) (node : mid.node ≡ old.node)
+    (knowledge : mid.knowledge ≡ old.knowledge)
+    (contents : mid.journal.contents ≡ old.journal.contents)
+    (is_open : mid.journal.is_open ≡ old.journal.is_open) (log : mid.journal.log ≡ old.journal.log)
+    (vote : Vote G D) (new : VoterView S G D L) (result : Result ⊤ (CastFault G D))
+    → WritesVote x same format is_full is_honest may_leave is_copied_as mid vote new result
+    → WritesVote x same format is_full is_honest may_leave is_copied_as old vote new result
+written_still x same format is_full is_honest may_leave is_copied_as old mid node knowledge contents is_open
+    log vote new (Ok done) it =
+    record {
+      ok = from_mid x same old mid node knowledge contents is_open _ it.ok;
+      err = tt;
+      is_open = it.is_open;
+      there = it.there;
+      all = it.all;
+      closed = it.closed;
+      why = tt;
+      full = λ e. subst (λ l. HasNoRoomFor format is_full l (vote ∷ []) new.journal.unwritten) log (it.full e);
+      leaves = λ left honest may. from_mid x same old mid node knowledge contents is_open _ (it.leaves left honest may);
+      gains = gains_still x same old mid node knowledge contents is_open vote new it.gains;
+      node = it.node ∙ node;
+      copied = subst (λ l. KeepsCopy is_copied_as l new.journal.log) log it.copied;
+    }
+written_still x same format is_full is_honest may_leave is_copied_as old mid node knowledge contents is_open
+    log vote new (Err fault) it =
+    record {
+      ok = tt;
+      err = from_mid x same old mid node knowledge contents is_open _ it.err;
+      is_open = it.is_open;
+      there = it.there;
+      all = it.all;
+      closed = it.closed;
+      why = why_still x same old mid node knowledge contents is_open vote fault new it.why;
+      full = λ e. subst (λ l. HasNoRoomFor format is_full l (vote ∷ []) new.journal.unwritten) log (it.full e);
+      leaves = λ left honest may. from_mid x same old mid node knowledge contents is_open _ (it.leaves left honest may);
+      gains = gains_still x same old mid node knowledge contents is_open vote new it.gains;
+      node = it.node ∙ node;
+      copied = subst (λ l. KeepsCopy is_copied_as l new.journal.log) log it.copied;
+    }

@@ -8,6 +8,7 @@ pub use Rattle.std.proofs.lemmas.Map.Made.{filter_same_pairs}
 pub use Rattle.std.proofs.lemmas.Option.{same_Some}
 pub use Rattle.std.specs.List.{filter}
 pub use Rattle.std.specs.Prelude.{◌≡◌, ◌++◌, [], ◌∷◌, ◌⊎◌, true, ℕ, Bool, Option, Some, None, IfSome, OnErr, MatchOption, option_and_then, ◌&&◌, false, not}
+pub use Rattle.std.specs.Prelude.{IfErr, ⊤}
 pub use Rattle.std.specs.Prelude.{List}
 pub use Rattle.std.specs.Prelude.{Contains, ◌+◌, ◌≤◌, zero, suc, cond, length, All, Err, IfOk, Ok, Result, ◌<◌, ◌≢◌, MatchBool, is_some}
 pub use Rattle.std.specs.Prelude.{slice_index_or, nat_le}
@@ -62,8 +63,8 @@ pub use Rattle.batcher_node.proofs.Dropping.{is_kept, kept_from}
 pub use Rattle.batcher_node.specs.Events.{started, proposal_forwarded, NodeEvent, certificate_came, constructed, view_finalized, NodeHistory, view_history}
 pub use Rattle.batcher_node.specs.Events.{forgery_came, view_entered, vote_came}
 pub use Rattle.batcher_node.specs.NodePromises.{IsNodePromised}
-pub use Rattle.batcher_node.specs.Nodes.{NodeConfig, slot_at, NodeView, SameNode, node_config, IsLedByAnother}
-pub use Rattle.batcher_node.specs.Represents.{MayNeedIn, NodeRepresents, SimulatesForward, NodeMeets, receipt, HasHistory, config_of}
+pub use Rattle.batcher_node.specs.Nodes.{NodeConfig, slot_at, NodeView, SameNode, node_config, WhyNotEntered}
+pub use Rattle.batcher_node.specs.Represents.{NodeRepresents, VoteMayNeed, SimulatesForward, NodeMeets, receipt, HasHistory, config_of}
 pub use Rattle.batcher_node.specs.Sending.{HoldsCertified}
 pub use Rattle.batcher_node.specs.Windows.{numbered, is_of, contains}
 pub use Rattle.batcher_node.specs.declared.answers.Cast.{Cast}
@@ -78,7 +79,7 @@ pub use Rattle.batcher_types.proofs.VoteLemmas.{same_round-refl, same_round-true
 pub use Rattle.batcher_voter.specs.Knowledge.{HasLearned, IsHighest, Learns, SameKnowledge, KnowledgeView, learned_at, Forgets, AreNullified}
 pub use Rattle.batcher_voter.specs.Knowledge.{IsParent, KnowsOf}
 pub use Rattle.batcher_voter.specs.Keeping.{DoesFor, HasOf, IsKnownAlready, IsKnownHere, WaitsFor, certificates_in, kept_for, HasOnDisk}
-pub use Rattle.batcher_voter.specs.Keeping.{IsFinalOf, IsKeptAmong, IsSafelyKept, KeepsWhatIsKnown}
+pub use Rattle.batcher_voter.specs.Keeping.{IsKeptAmong, IsSafelyKept, KeepsWhatIsKnown}
 pub use Rattle.batcher_voter.specs.Journals.{MayGain}
 pub use Rattle.batcher_voter.specs.Knowledge.{learned_of, nothing_learned, with_learned}
 pub use Rattle.batcher_voter.specs.Refusals.{HasNoGround, IsNotNotarized, IsRefused, RestsOnLearned}
@@ -100,3 +101,11 @@ pub use Rattle.batcher_voter.specs.declared.answers.StartFault.{StartFault}
 pub use Rattle.batcher_voter.specs.declared.answers.StartFault.TheVariants.{Forged as ForgedToStart, Malformed, NotFinal, OutOfMemory as NoMemoryToStart}
 pub use Rattle.batcher_voter.specs.Unstarted.{HasFinalization, HasUnread, IsVouched, IsCertifiedAs, KeepsReadable, WhyUncertified, all_in}
 pub use Rattle.batcher_voter.specs.Unstarted.{AreReadable, HasForged, HasNoFinalization, IsReadAs, IsNoCertificate, WhyNotLearned, WhyNotStarted, WhyUnread}
+pub use Rattle.batcher_voter.specs.Casting.{WritesVote}
+pub use Rattle.batcher_bytes.specs.Copies.{CopyView, KeepsCopy}
+pub use Rattle.batcher_journal.specs.Ready.{HasNoRoomFor}
+pub use Rattle.batcher_voter.specs.Finalizing.{WhyNotFinalized}
+pub use Rattle.batcher_voter.specs.Journals.{IsTooLongToFinalize}
+pub use Rattle.batcher_voter.specs.declared.answers.FinalizeFault.{FinalizeFault}
+pub use Rattle.batcher_voter.specs.declared.answers.FinalizeFault.TheVariants.{Closed as NotOpenToFinalize, Forged as ForgedFinalization, Full as TooLong}
+pub use Rattle.batcher_voter.specs.declared.answers.FinalizeFault.TheVariants.{NotOfEpoch, OutOfMemory as NoMemoryToFinalize, Passed}

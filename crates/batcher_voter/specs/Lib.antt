@@ -2,6 +2,8 @@ pub mod Knowledge
 pub mod Remembering
 pub mod Keeping
 pub mod Voting
+pub mod Casting
+pub mod Finalizing
 pub mod Refusals
 pub mod Needing
 pub mod Reopening

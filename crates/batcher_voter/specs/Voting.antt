@@ -18,7 +18,8 @@ use Rattle.batcher_journal.specs.Contradictions.{IsFree}
 use Rattle.batcher_journal.specs.Ready.{JournalView}
 use Rattle.batcher_node.specs.Events.{NodeEvent, proposal_forwarded, started, view_history}
 use Rattle.batcher_node.specs.Events.{vote_cast}
-use Rattle.batcher_node.specs.Nodes.{NodeConfig, NodeView, slot_at}
+use Rattle.batcher_bytes.specs.Copies.{CopyView, KeepsCopy}
+use Rattle.batcher_node.specs.Nodes.{NodeConfig, NodeView, SameNode, slot_at}
 use Rattle.batcher.specs.Answers.{own_answer}
 use Rattle.batcher.specs.Steps.{fault_or_memory}
 use Rattle.batcher.specs.answers.OwnFault.{OwnFault}
@@ -100,6 +101,43 @@ module _ {D K G C : Type 0} (vote : Vote G D) (past : VoterHistory D K G C) (ear
       ⊎ (after ≡ written vote ∷ past)
 
 module _ {S G D L : Type 0} where
+  -- The voter is made of this scheme and this journal, and its view is that of the journal's floor.
+  pub record IsMadeOf (scheme : S) (ahead : ℕ) (retains : Bool) (journal : JournalView G D L)
+      (voter : VoterView S G D L) : Type 0 where
+    pub scheme_is : voter.node.scheme ≡ scheme
+    pub epoch_is : voter.node.epoch ≡ journal.contents.floor.epoch
+    pub retains_is : voter.node.retains ≡ retains
+    pub window_is :
+        voter.node.window ≡ record {
+          finalized = journal.contents.floor.view.0;
+          current = journal.contents.floor.view.0;
+          ahead = ahead;
+        }
+    pub journal_is : voter.journal ≡ journal
+
+  -- A call of the node leaves its scheme and its epoch as they were, what the journal has on the
+  -- disk, whether that is open, and what a caller has of its log.
+  pub record SameVoter (is_copied_as : L → CopyView → Type 0) (old new : VoterView S G D L)
+      : Type 0 where
+    pub same : SameNode old.node new.node
+    pub contents : new.journal.contents ≡ old.journal.contents
+    pub is_open : new.journal.is_open ≡ old.journal.is_open
+    pub copied : KeepsCopy is_copied_as old.journal.log new.journal.log
+
+  -- Nothing but the node has changed. It is of the same scheme and epoch, and retains as before.
+  pub record OnlyNode (old new : VoterView S G D L) : Type 0 where
+    pub same : SameNode old.node new.node
+    pub journal : new.journal ≡ old.journal
+    pub knowledge : new.knowledge ≡ old.knowledge
+    pub waits : new.waits ≡ old.waits
+
+  -- The node is as it was, and so is the journal, but for what isn't written yet.
+  pub record SameOnDisk (old new : VoterView S G D L) : Type 0 where
+    pub node : new.node ≡ old.node
+    pub contents : new.journal.contents ≡ old.journal.contents
+    pub is_open : new.journal.is_open ≡ old.journal.is_open
+    pub log : new.journal.log ≡ old.journal.log
+
   -- A proposal is the one that its view is known to have notarized, or the last such, and no vote
   -- is for its finalize, or contradicts that.
   abbrev pub IsFinalizable : (D → D → Bool) → VoterView S G D L → Proposal D → Type 0
@@ -168,6 +206,11 @@ module _ {S D K G C L : Type 0} (x : NodeConfig D K G C) where
     -- nothing happened that counts
     abbrev pub VoterStays : Type 0
     VoterStays = ForEachLife old (λ past earlier. IsVoting past earlier new)
+
+    -- Nothing happened that counts, and the node is as it was.
+    pub record VoterKeepsNode : Type 0 where
+      pub node : new.node ≡ old.node
+      pub stays : VoterStays
 
   -- What the journal and the window say, by the answer.
   abbrev pub Says : (D → D → Bool) → VoterView S G D L → Subject D → Permission G D → Type 0

@@ -2,17 +2,16 @@
 
 ghost use Rattle.std.specs.Prelude.{◌≡◌, ◌<◌, ◌≤◌, Err, IfNone, IfOk, IfSome, MatchBool, None};
 ghost use Rattle.std.specs.Prelude.{Ok, OnErr, OnOk, Some, length, option_and_then, true};
-ghost use Rattle.std.specs.Prelude.{false};
+ghost use Rattle.std.specs.Prelude.{false, IfErr};
 ghost use Rattle.std.specs.Option.{option_copied};
-ghost use Rattle.batcher.specs.Votes.{round_in, subject_certified, subject_of};
-ghost use Rattle.batcher_node.specs.Events.{certificate_came, constructed, view_entered, vote_came};
-ghost use Rattle.batcher_node.specs.Nodes.{IsAtRest, IsLedByAnother, IsNext, SameNode, slot_at};
+ghost use Rattle.batcher.specs.Votes.{round_in, subject_certified};
+ghost use Rattle.batcher_node.specs.Events.{certificate_came, constructed, view_entered};
+ghost use Rattle.batcher_node.specs.Events.{vote_came};
+ghost use Rattle.batcher_node.specs.Nodes.{IsAtRest, IsNext, SameNode, WhyNotEntered};
 ghost use Rattle.batcher_node.specs.declared.answers.EnterFault.{EnterFault};
-ghost use Rattle.batcher_node.specs.Represents.{IsHeard, MayNeedIn, NodeMeets, NextMayNeed};
-ghost use Rattle.batcher_node.specs.Represents.{SimulatesForward};
+ghost use Rattle.batcher_node.specs.Represents.{NodeMeets, NextMayNeed};
+ghost use Rattle.batcher_node.specs.Represents.{SimulatesForward, VoteMayNeed, CertificateMayNeed};
 ghost use Rattle.batcher.specs.Verifiers.{certifies_itself};
-ghost use Rattle.batcher.specs.calls.Call.TheVariants.{Certificate as CertificateCall};
-ghost use Rattle.batcher.specs.calls.Call.TheVariants.{Network as NetworkCall};
 ghost use Rattle.batcher_node.specs.Windows.{is_of};
 ghost use Rattle.batcher_bytes.specs.Messages.{certificate_format, versioned};
 ghost use Rattle.batcher_journal.specs.Ready.{JournalView, Keeps};
@@ -21,9 +20,8 @@ ghost use Rattle.batcher_voter.specs.Keeping.{IsKnownAlready};
 ghost use Rattle.batcher_voter.specs.Unstarted.{IsVouched};
 ghost use Rattle.batcher_voter.specs.Knowledge.{HasRoom};
 ghost use Rattle.batcher_voter.specs.Needing.{CertificateNeeds, ConstructionNeeds};
-ghost use Rattle.batcher_voter.specs.Voting.{IsOfItsView, VoterMeets, VoterStays, was_recorded};
-ghost use Rattle.batcher_voter.specs.Voting.{ForwardsProposal};
-ghost use Rattle.batcher_bytes.specs.Copies.{KeepsCopy};
+ghost use Rattle.batcher_voter.specs.Voting.{IsOfItsView, VoterMeets, was_recorded};
+ghost use Rattle.batcher_voter.specs.Voting.{ForwardsProposal, SameVoter, OnlyNode, VoterKeepsNode};
 
 use crate::learned::encoded;
 use crate::voter::Voter;
@@ -54,15 +52,10 @@ where
         ensures meets { IfOk result (λ receipt. VoterMeets
             (⟦<S as NodeConfigs<D>>⟧.of self.old.node) self.old self.new
             (vote_came peer vote receipt)) }
-        ensures heard { OnErr result (IsHeard (⟦<S as NodeConfigs<D>>⟧.of self.old.node)
-            self.old.node peer (round_in (subject_of vote))) }
-        ensures needed { OnErr result (MayNeedIn (⟦<S as NodeConfigs<D>>⟧.of self.old.node)
-            self.old.node (round_in (subject_of vote)).view.0 (NetworkCall peer vote)) }
+        ensures needed { OnErr result
+            (VoteMayNeed (⟦<S as NodeConfigs<D>>⟧.of self.old.node) self.old.node peer vote) }
         ensures refused { OnErr result (self.new ≡ self.old) }
-        ensures same { SameNode self.old.node self.new.node }
-        ensures contents { self.new.journal.contents ≡ self.old.journal.contents }
-        ensures open { self.new.journal.is_open ≡ self.old.journal.is_open }
-        ensures copied { KeepsCopy L.is_copied_as self.old.journal.log self.new.journal.log }
+        ensures frame { SameVoter L.is_copied_as self.old self.new }
     {
         match self.call_vote(peer, vote) {
             Ok(receipt) => Ok(receipt),
@@ -78,14 +71,10 @@ where
     ) -> Result<Receipt<Admission<S::Signature, D>>, AllocError>
         ensures meets { IfOk result (λ receipt. NodeMeets (⟦<S as NodeConfigs<D>>⟧.of self.old.node)
             self.old.node (vote_came peer vote receipt) self.new.node) }
-        ensures heard { OnErr result (IsHeard (⟦<S as NodeConfigs<D>>⟧.of self.old.node)
-            self.old.node peer (round_in (subject_of vote))) }
-        ensures needed { OnErr result (MayNeedIn (⟦<S as NodeConfigs<D>>⟧.of self.old.node)
-            self.old.node (round_in (subject_of vote)).view.0 (NetworkCall peer vote)) }
+        ensures needed { OnErr result
+            (VoteMayNeed (⟦<S as NodeConfigs<D>>⟧.of self.old.node) self.old.node peer vote) }
         ensures refused { OnErr result (self.new ≡ self.old) }
-        ensures same { SameNode self.old.node self.new.node }
-        ensures journal { self.new.journal ≡ self.old.journal }
-        ensures knowledge { self.new.knowledge ≡ self.old.knowledge }
+        ensures frame { OnlyNode self.old self.new }
     {
         self.node.promises();
         self.node.receive_vote(peer, vote)
@@ -97,17 +86,9 @@ where
             self.new (view_entered view.0 leader)) }
         ensures passed { view.0 < self.old.node.window.finalized
             → result ≡ Err EnterFault.Passed }
-        ensures not_passed { result ≡ Err EnterFault.Passed
-            → view.0 < self.old.node.window.finalized }
-        ensures led { result ≡ Err EnterFault.LeaderChanged
-            → IsLedByAnother (slot_at self.old.node.rounds view.0) leader }
-        ensures needed { result ≡ Err EnterFault.OutOfMemory
-            → slot_at self.old.node.rounds view.0 ≡ None }
+        ensures why { IfErr result (WhyNotEntered self.old.node view.0 leader) }
         ensures refused { OnErr result (self.new ≡ self.old) }
-        ensures same { SameNode self.old.node self.new.node }
-        ensures contents { self.new.journal.contents ≡ self.old.journal.contents }
-        ensures open { self.new.journal.is_open ≡ self.old.journal.is_open }
-        ensures copied { KeepsCopy L.is_copied_as self.old.journal.log self.new.journal.log }
+        ensures frame { SameVoter L.is_copied_as self.old self.new }
     {
         match self.call_enter(view, leader) {
             Ok(()) => Ok(()),
@@ -121,16 +102,9 @@ where
             self.old.node (view_entered view.0 leader) self.new.node) }
         ensures passed { view.0 < self.old.node.window.finalized
             → result ≡ Err EnterFault.Passed }
-        ensures not_passed { result ≡ Err EnterFault.Passed
-            → view.0 < self.old.node.window.finalized }
-        ensures led { result ≡ Err EnterFault.LeaderChanged
-            → IsLedByAnother (slot_at self.old.node.rounds view.0) leader }
-        ensures needed { result ≡ Err EnterFault.OutOfMemory
-            → slot_at self.old.node.rounds view.0 ≡ None }
+        ensures why { IfErr result (WhyNotEntered self.old.node view.0 leader) }
         ensures refused { OnErr result (self.new ≡ self.old) }
-        ensures same { SameNode self.old.node self.new.node }
-        ensures journal { self.new.journal ≡ self.old.journal }
-        ensures knowledge { self.new.knowledge ≡ self.old.knowledge }
+        ensures frame { OnlyNode self.old self.new }
     {
         self.node.promises();
         self.node.enter(view, leader)
@@ -141,10 +115,7 @@ where
         ensures meets { ForwardsProposal
             (⟦<S as NodeConfigs<D>>⟧.of self.old.node) self.old self.new
             view.0 me result }
-        ensures same { SameNode self.old.node self.new.node }
-        ensures contents { self.new.journal.contents ≡ self.old.journal.contents }
-        ensures open { self.new.journal.is_open ≡ self.old.journal.is_open }
-        ensures copied { KeepsCopy L.is_copied_as self.old.journal.log self.new.journal.log }
+        ensures frame { SameVoter L.is_copied_as self.old self.new }
     {
         self.call_forward(view, me)
     }
@@ -153,10 +124,7 @@ where
     fn call_forward(&mut self, view: View, me: Participant) -> Option<Proposal<D>>
         ensures meets { SimulatesForward (⟦<S as NodeConfigs<D>>⟧.of self.old.node)
             self.old.node view.0 me result self.new.node }
-        ensures same { SameNode self.old.node self.new.node }
-        ensures journal { self.new.journal ≡ self.old.journal }
-        ensures knowledge { self.new.knowledge ≡ self.old.knowledge }
-        ensures waits { self.new.waits ≡ self.old.waits }
+        ensures frame { OnlyNode self.old self.new }
     {
         self.node.promises();
         self.node.try_forward_proposal(view, me)
@@ -174,13 +142,9 @@ where
             (certificate_came peer certificate.now receipt)) }
         ensures needed { OnErr result (CertificateNeeds (⟦<S as NodeConfigs<D>>⟧.of self.old.node)
             self.old peer certificate.now) }
-        ensures refused { OnErr result (self.new.node ≡ self.old.node) }
-        ensures stays { OnErr result
-            (VoterStays (⟦<S as NodeConfigs<D>>⟧.of self.old.node) self.old self.new) }
-        ensures same { SameNode self.old.node self.new.node }
-        ensures contents { self.new.journal.contents ≡ self.old.journal.contents }
-        ensures open { self.new.journal.is_open ≡ self.old.journal.is_open }
-        ensures copied { KeepsCopy L.is_copied_as self.old.journal.log self.new.journal.log }
+        ensures refused { OnErr result
+            (VoterKeepsNode (⟦<S as NodeConfigs<D>>⟧.of self.old.node) self.old self.new) }
+        ensures frame { SameVoter L.is_copied_as self.old self.new }
     {
         let view = certificate.round().view.0;
         if !self.is_within(certificate.round()) {
@@ -207,23 +171,12 @@ where
         ensures meets { IfOk result (λ receipt. VoterMeets
             (⟦<S as NodeConfigs<D>>⟧.of self.old.node) self.old self.new
             (certificate_came peer certificate.now receipt)) }
-        ensures heard { OnErr result (
-            IsKnownAlready self.old.knowledge (subject_certified certificate.now)
-            → IsHeard (⟦<S as NodeConfigs<D>>⟧.of self.old.node)
-            self.old.node peer (round_in (subject_certified certificate.now))) }
-        ensures certifies { OnErr result (
-            IsKnownAlready self.old.knowledge (subject_certified certificate.now)
-            → certifies_itself (S.meaning self.old.node.scheme) certificate.now ≡ true) }
         ensures needed { OnErr result (
             IsKnownAlready self.old.knowledge (subject_certified certificate.now)
-            → MayNeedIn (⟦<S as NodeConfigs<D>>⟧.of self.old.node)
-            self.old.node (round_in (subject_certified certificate.now)).view.0
-            (CertificateCall certificate.now)) }
+            → CertificateMayNeed (⟦<S as NodeConfigs<D>>⟧.of self.old.node) self.old.node peer
+            certificate.now) }
         ensures refused { OnErr result (self.new ≡ self.old) }
-        ensures same { SameNode self.old.node self.new.node }
-        ensures contents { self.new.journal.contents ≡ self.old.journal.contents }
-        ensures open { self.new.journal.is_open ≡ self.old.journal.is_open }
-        ensures copied { KeepsCopy L.is_copied_as self.old.journal.log self.new.journal.log }
+        ensures frame { SameVoter L.is_copied_as self.old self.new }
     {
         if self.has(certificate) {
             return self.receive_known(peer, certificate);
@@ -245,13 +198,8 @@ where
         ensures meets { IfOk result (λ receipt. VoterMeets
             (⟦<S as NodeConfigs<D>>⟧.of self.old.node) self.old self.new
             (certificate_came peer certificate.now receipt)) }
-        ensures heard { OnErr result (IsHeard (⟦<S as NodeConfigs<D>>⟧.of self.old.node)
-            self.old.node peer (round_in (subject_certified certificate.now))) }
-        ensures certifies { OnErr result (certifies_itself (S.meaning self.old.node.scheme)
-            certificate.now ≡ true) }
-        ensures needed { OnErr result (MayNeedIn (⟦<S as NodeConfigs<D>>⟧.of self.old.node)
-            self.old.node (round_in (subject_certified certificate.now)).view.0
-            (CertificateCall certificate.now)) }
+        ensures needed { OnErr result (CertificateMayNeed
+            (⟦<S as NodeConfigs<D>>⟧.of self.old.node) self.old.node peer certificate.now) }
         ensures refused { OnErr result (self.new ≡ self.old) }
         ensures same { SameNode self.old.node self.new.node }
         ensures journal { self.new.journal ≡ self.old.journal }
@@ -341,10 +289,7 @@ where
             (certificate_came peer certificate.now receipt)) }
         ensures heard { OnErr result ⊥ }
         ensures refused { OnErr result (self.new ≡ self.old) }
-        ensures same { SameNode self.old.node self.new.node }
-        ensures contents { self.new.journal.contents ≡ self.old.journal.contents }
-        ensures open { self.new.journal.is_open ≡ self.old.journal.is_open }
-        ensures copied { KeepsCopy L.is_copied_as self.old.journal.log self.new.journal.log }
+        ensures frame { SameVoter L.is_copied_as self.old self.new }
     {
         match self.call_certificate(peer, certificate) {
             Ok(receipt) => Ok(receipt),
@@ -363,18 +308,10 @@ where
         ensures within { IfOk result (λ receipt. was_recorded receipt ≡ true
             → is_of self.old.node.epoch self.old.node.window
             (round_in (subject_certified certificate.now)) ≡ true) }
-        ensures heard { OnErr result (IsHeard (⟦<S as NodeConfigs<D>>⟧.of self.old.node)
-            self.old.node peer (round_in (subject_certified certificate.now))) }
-        ensures certifies { OnErr result (certifies_itself (S.meaning self.old.node.scheme)
-            certificate.now ≡ true) }
-        ensures needed { OnErr result (MayNeedIn (⟦<S as NodeConfigs<D>>⟧.of self.old.node)
-            self.old.node (round_in (subject_certified certificate.now)).view.0
-            (CertificateCall certificate.now)) }
+        ensures needed { OnErr result (CertificateMayNeed
+            (⟦<S as NodeConfigs<D>>⟧.of self.old.node) self.old.node peer certificate.now) }
         ensures refused { OnErr result (self.new ≡ self.old) }
-        ensures same { SameNode self.old.node self.new.node }
-        ensures journal { self.new.journal ≡ self.old.journal }
-        ensures knowledge { self.new.knowledge ≡ self.old.knowledge }
-        ensures waits { self.new.waits ≡ self.old.waits }
+        ensures frame { OnlyNode self.old self.new }
     {
         self.node.promises();
         self.node.receive_certificate(peer, certificate)
@@ -396,13 +333,9 @@ where
         ensures rests { result ≡ Ok None → (self.new ≡ self.old) × IsAtRest self.old.node }
         ensures needed { OnErr result
             (ConstructionNeeds (⟦<S as NodeConfigs<D>>⟧.of self.old.node) self.old) }
-        ensures refused { OnErr result (self.new.node ≡ self.old.node) }
-        ensures stays { OnErr result
-            (VoterStays (⟦<S as NodeConfigs<D>>⟧.of self.old.node) self.old self.new) }
-        ensures same { SameNode self.old.node self.new.node }
-        ensures contents { self.new.journal.contents ≡ self.old.journal.contents }
-        ensures open { self.new.journal.is_open ≡ self.old.journal.is_open }
-        ensures copied { KeepsCopy L.is_copied_as self.old.journal.log self.new.journal.log }
+        ensures refused { OnErr result
+            (VoterKeepsNode (⟦<S as NodeConfigs<D>>⟧.of self.old.node) self.old self.new) }
+        ensures frame { SameVoter L.is_copied_as self.old self.new }
     {
         match self.next_construction() {
             Some(view) => match self.make_ready(view.0, waiting) {
@@ -439,10 +372,7 @@ where
         ensures needed { OnErr result
             (NextMayNeed (⟦<S as NodeConfigs<D>>⟧.of self.old.node) self.old.node) }
         ensures refused { OnErr result (self.new ≡ self.old) }
-        ensures same { SameNode self.old.node self.new.node }
-        ensures contents { self.new.journal.contents ≡ self.old.journal.contents }
-        ensures open { self.new.journal.is_open ≡ self.old.journal.is_open }
-        ensures copied { KeepsCopy L.is_copied_as self.old.journal.log self.new.journal.log }
+        ensures frame { SameVoter L.is_copied_as self.old self.new }
     {
         self.begins();
         self.has_history();
@@ -473,10 +403,7 @@ where
         ensures needed { OnErr result
             (NextMayNeed (⟦<S as NodeConfigs<D>>⟧.of self.old.node) self.old.node) }
         ensures refused { OnErr result (self.new ≡ self.old) }
-        ensures same { SameNode self.old.node self.new.node }
-        ensures journal { self.new.journal ≡ self.old.journal }
-        ensures knowledge { self.new.knowledge ≡ self.old.knowledge }
-        ensures waits { self.new.waits ≡ self.old.waits }
+        ensures frame { OnlyNode self.old self.new }
     {
         match self.ask_construct(rng) {
             Ok(Some(made)) => Ok(made),
@@ -500,10 +427,7 @@ where
         ensures needed { OnErr result
             (NextMayNeed (⟦<S as NodeConfigs<D>>⟧.of self.old.node) self.old.node) }
         ensures refused { OnErr result (self.new ≡ self.old) }
-        ensures same { SameNode self.old.node self.new.node }
-        ensures journal { self.new.journal ≡ self.old.journal }
-        ensures knowledge { self.new.knowledge ≡ self.old.knowledge }
-        ensures waits { self.new.waits ≡ self.old.waits }
+        ensures frame { OnlyNode self.old self.new }
     {
         self.node.promises();
         let made = self.node.try_construct(rng);

@@ -3,12 +3,10 @@
 ghost use Rattle.std.specs.Prelude.{◌≡◌, ◌≢◌, ◌⊎◌, ◌∷◌, [], Contains, Err, IfErr, IfOk, List};
 ghost use Rattle.std.specs.Prelude.{MatchBool, None, Ok, OnErr, OnOk, ℕ, true, false};
 ghost use Rattle.batcher.specs.Votes.{attestation_of, round_in, subject_of};
-ghost use Rattle.batcher_agreement.specs.Lives.{written};
 ghost use Rattle.batcher_node.specs.Events.{view_history};
 ghost use Rattle.batcher_journal.specs.Answers.{MayBeWrittenBehind};
 ghost use Rattle.batcher_journal.specs.Ready.{HasContents, HasNoRoomFor, IsAsBefore, WriteLeaves};
 ghost use Rattle.batcher_journal.specs.Ready.{with_more};
-ghost use Rattle.batcher_voter.specs.Journals.{MayGain};
 ghost use Rattle.batcher_bytes.specs.Messages.{vote_format};
 ghost use Rattle.batcher_journal.specs.declared.journal.WriteFault.TheVariants.{Closed as WriteClosed};
 ghost use Rattle.batcher_journal.specs.declared.journal.WriteFault.TheVariants.{Full as NoRoom};
@@ -20,11 +18,11 @@ ghost use Rattle.batcher.specs.Answers.{own_answer};
 ghost use Rattle.batcher.specs.Steps.{fault_or_memory};
 ghost use Rattle.batcher_voter.specs.declared.answers.CastFault.{CastFault};
 ghost use Rattle.batcher_voter.specs.declared.answers.Permission.TheVariants.{Known, Sign};
-ghost use Rattle.batcher_voter.specs.Voting.{ForEachLife, IsVoting, VoterStays, Casts, LeavesVote};
+ghost use Rattle.batcher_voter.specs.Voting.{ForEachLife, LeavesVote, Permits, Says, Shows};
+ghost use Rattle.batcher_voter.specs.Voting.{WhyNotShown, OnlyNode};
 ghost use Rattle.batcher_voter.specs.Keeping.{HasWrittenAll};
-ghost use Rattle.batcher_voter.specs.Voting.{IsInJournal, MayWrite, Permits, Says, Shows};
-ghost use Rattle.batcher_voter.specs.Voting.{WhyNotCast, WhyNotShown};
 ghost use Rattle.batcher_bytes.specs.Copies.{KeepsCopy};
+ghost use Rattle.batcher_voter.specs.Casting.{CastsVote, WritesVote};
 
 use crate::answers::{CastFault, Permission};
 use crate::voter::Voter;
@@ -51,27 +49,12 @@ where
     ) -> Result<Cast<S::Signature, D>, CastFault<S::Signature, D>>
         requires { (S.meaning self.old.node.scheme).attests (subject_of vote) (attestation_of vote)
             ≡ true }
-        ensures meets { IfOk result (λ cast. Casts (⟦<S as NodeConfigs<D>>⟧.of self.old.node)
-            self.old vote cast self.new) }
-        ensures in_journal { IfOk result (IsInJournal vote self.new) }
+        ensures casts { CastsVote (⟦<S as NodeConfigs<D>>⟧.of self.old.node) D.eq
+            (vote_format S.Signature.format D.format) L.is_full L.is_honest L.may_leave
+            L.is_copied_as self.old vote self.new result }
         // Its write has all that is known.
         ensures all { OnOk result ((self.new ≡ self.old) ⊎ (HasWrittenAll self.new
             ⊎ Contains self.old.journal.contents.votes vote)) }
-        ensures refused { OnErr result (ForEachLife (⟦<S as NodeConfigs<D>>⟧.of self.old.node)
-            self.old (λ past earlier. MayWrite (⟦<S as NodeConfigs<D>>⟧.of self.old.node) vote
-            past earlier self.new)) }
-        ensures why { IfErr result (λ fault. WhyNotCast (⟦<S as NodeConfigs<D>>⟧.of self.old.node)
-            D.eq self.old vote fault self.new) }
-        ensures full { result ≡ Err CastFault.Full → HasNoRoomFor
-            (vote_format S.Signature.format D.format) L.is_full self.old.journal.log (vote ∷ [])
-            self.new.journal.unwritten }
-        ensures leaves { (left : List ℕ) → self.old.journal.is_open ≡ true
-            → L.is_honest self.new.journal.log → L.may_leave self.new.journal.log left
-            → ForEachLife (⟦<S as NodeConfigs<D>>⟧.of self.old.node) self.old (λ past earlier.
-            LeavesVote (vote_format S.Signature.format D.format) past earlier vote left) }
-        ensures same { SameNode self.old.node self.new.node }
-        ensures gains { MayGain vote self.old.journal self.new.journal }
-        ensures copied { KeepsCopy L.is_copied_as self.old.journal.log self.new.journal.log }
     {
         self.rests(&vote);
         if vote.signer().0 != self.journal.participant().0 {
@@ -98,25 +81,10 @@ where
             (subject_of vote) Sign }
         requires permits { ForEachLife (⟦<S as NodeConfigs<D>>⟧.of self.old.node) self.old (Permits
             (⟦<S as NodeConfigs<D>>⟧.of self.old.node) D.eq self.old (subject_of vote) Sign) }
-        ensures meets { IfOk result (λ cast. Casts (⟦<S as NodeConfigs<D>>⟧.of self.old.node)
-            self.old vote cast self.new) }
-        ensures in_journal { IfOk result (IsInJournal vote self.new) }
+        ensures casts { CastsVote (⟦<S as NodeConfigs<D>>⟧.of self.old.node) D.eq
+            (vote_format S.Signature.format D.format) L.is_full L.is_honest L.may_leave
+            L.is_copied_as self.old vote self.new result }
         ensures all { OnOk result (HasWrittenAll self.new) }
-        ensures refused { OnErr result (ForEachLife (⟦<S as NodeConfigs<D>>⟧.of self.old.node)
-            self.old (λ past earlier. MayWrite (⟦<S as NodeConfigs<D>>⟧.of self.old.node) vote
-            past earlier self.new)) }
-        ensures why { IfErr result (λ fault. WhyNotCast (⟦<S as NodeConfigs<D>>⟧.of self.old.node)
-            D.eq self.old vote fault self.new) }
-        ensures full { result ≡ Err CastFault.Full → HasNoRoomFor
-            (vote_format S.Signature.format D.format) L.is_full self.old.journal.log (vote ∷ [])
-            self.new.journal.unwritten }
-        ensures leaves { (left : List ℕ) → self.old.journal.is_open ≡ true
-            → L.is_honest self.new.journal.log → L.may_leave self.new.journal.log left
-            → ForEachLife (⟦<S as NodeConfigs<D>>⟧.of self.old.node) self.old (λ past earlier.
-            LeavesVote (vote_format S.Signature.format D.format) past earlier vote left) }
-        ensures same { SameNode self.old.node self.new.node }
-        ensures gains { MayGain vote self.old.journal self.new.journal }
-        ensures copied { KeepsCopy L.is_copied_as self.old.journal.log self.new.journal.log }
     {
         match self.write(vote, waiting) {
             Ok(()) => match self.show(vote) {
@@ -140,21 +108,11 @@ where
         requires permits { ForEachLife (⟦<S as NodeConfigs<D>>⟧.of self.old.node) self.old (Permits
             (⟦<S as NodeConfigs<D>>⟧.of self.old.node) D.eq self.old (subject_of vote)
             (Known known.now)) }
-        ensures meets { IfOk result (λ cast. Casts (⟦<S as NodeConfigs<D>>⟧.of self.old.node)
-            self.old vote cast self.new) }
-        ensures in_journal { IfOk result (IsInJournal vote self.new) }
+        ensures casts { CastsVote (⟦<S as NodeConfigs<D>>⟧.of self.old.node) D.eq
+            (vote_format S.Signature.format D.format) L.is_full L.is_honest L.may_leave
+            L.is_copied_as self.old vote self.new result }
         ensures before { OnOk result (Contains self.old.journal.contents.votes vote) }
-        ensures refused { OnErr result (self.new ≡ self.old) }
-        ensures why { IfErr result (λ fault. WhyNotCast (⟦<S as NodeConfigs<D>>⟧.of self.old.node)
-            D.eq self.old vote fault self.new) }
-        ensures full { result ≡ Err CastFault.Full → ⊥ }
-        ensures leaves { (left : List ℕ) → self.old.journal.is_open ≡ true
-            → L.is_honest self.new.journal.log → L.may_leave self.new.journal.log left
-            → ForEachLife (⟦<S as NodeConfigs<D>>⟧.of self.old.node) self.old (λ past earlier.
-            LeavesVote (vote_format S.Signature.format D.format) past earlier vote left) }
-        ensures same { SameNode self.old.node self.new.node }
-        ensures gains { MayGain vote self.old.journal self.new.journal }
-        ensures copied { KeepsCopy L.is_copied_as self.old.journal.log self.new.journal.log }
+        ensures stays { OnErr result (self.new ≡ self.old) }
     {
         self.rests(&vote);
         if !is_one_vote(&vote, known) {
@@ -176,27 +134,9 @@ where
             (subject_of vote) Sign }
         requires permits { ForEachLife (⟦<S as NodeConfigs<D>>⟧.of self.old.node) self.old (Permits
             (⟦<S as NodeConfigs<D>>⟧.of self.old.node) D.eq self.old (subject_of vote) Sign) }
-        ensures ok { OnOk result (ForEachLife (⟦<S as NodeConfigs<D>>⟧.of self.old.node) self.old
-            (λ past earlier. IsVoting (⟦<S as NodeConfigs<D>>⟧.of self.old.node)
-            (written vote ∷ past) earlier self.new)) }
-        ensures err { OnErr result
-            (VoterStays (⟦<S as NodeConfigs<D>>⟧.of self.old.node) self.old self.new) }
-        ensures open { OnOk result (self.new.journal.is_open ≡ true) }
-        ensures there { OnOk result (Contains self.new.journal.contents.votes vote) }
-        ensures all { OnOk result (HasWrittenAll self.new) }
-        ensures closed { result ≡ Err CastFault.Closed → self.new.journal.is_open ≡ false }
-        ensures why { IfErr result (λ fault. WhyNotCast (⟦<S as NodeConfigs<D>>⟧.of self.old.node)
-            D.eq self.old vote fault self.new) }
-        ensures full { result ≡ Err CastFault.Full → HasNoRoomFor
-            (vote_format S.Signature.format D.format) L.is_full self.old.journal.log (vote ∷ [])
-            self.new.journal.unwritten }
-        ensures leaves { (left : List ℕ) → L.is_honest self.new.journal.log
-            → L.may_leave self.new.journal.log left
-            → ForEachLife (⟦<S as NodeConfigs<D>>⟧.of self.old.node) self.old (λ past earlier.
-            LeavesVote (vote_format S.Signature.format D.format) past earlier vote left) }
-        ensures gains { MayGain vote self.old.journal self.new.journal }
-        ensures node { self.new.node ≡ self.old.node }
-        ensures copied { KeepsCopy L.is_copied_as self.old.journal.log self.new.journal.log }
+        ensures { WritesVote (⟦<S as NodeConfigs<D>>⟧.of self.old.node) D.eq
+            (vote_format S.Signature.format D.format) L.is_full L.is_honest L.may_leave
+            L.is_copied_as self.old vote self.new result }
     {
         self.keep_given(waiting);
         match self.write_kept(vote) {
@@ -211,27 +151,9 @@ where
             (subject_of vote) Sign }
         requires permits { ForEachLife (⟦<S as NodeConfigs<D>>⟧.of self.old.node) self.old (Permits
             (⟦<S as NodeConfigs<D>>⟧.of self.old.node) D.eq self.old (subject_of vote) Sign) }
-        ensures ok { OnOk result (ForEachLife (⟦<S as NodeConfigs<D>>⟧.of self.old.node) self.old
-            (λ past earlier. IsVoting (⟦<S as NodeConfigs<D>>⟧.of self.old.node)
-            (written vote ∷ past) earlier self.new)) }
-        ensures err { OnErr result
-            (VoterStays (⟦<S as NodeConfigs<D>>⟧.of self.old.node) self.old self.new) }
-        ensures open { OnOk result (self.new.journal.is_open ≡ true) }
-        ensures there { OnOk result (Contains self.new.journal.contents.votes vote) }
-        ensures all { OnOk result (HasWrittenAll self.new) }
-        ensures closed { result ≡ Err CastFault.Closed → self.new.journal.is_open ≡ false }
-        ensures why { IfErr result (λ fault. WhyNotCast (⟦<S as NodeConfigs<D>>⟧.of self.old.node)
-            D.eq self.old vote fault self.new) }
-        ensures full { result ≡ Err CastFault.Full → HasNoRoomFor
-            (vote_format S.Signature.format D.format) L.is_full self.old.journal.log (vote ∷ [])
-            self.new.journal.unwritten }
-        ensures leaves { (left : List ℕ) → L.is_honest self.new.journal.log
-            → L.may_leave self.new.journal.log left
-            → ForEachLife (⟦<S as NodeConfigs<D>>⟧.of self.old.node) self.old (λ past earlier.
-            LeavesVote (vote_format S.Signature.format D.format) past earlier vote left) }
-        ensures gains { MayGain vote self.old.journal self.new.journal }
-        ensures node { self.new.node ≡ self.old.node }
-        ensures copied { KeepsCopy L.is_copied_as self.old.journal.log self.new.journal.log }
+        ensures { WritesVote (⟦<S as NodeConfigs<D>>⟧.of self.old.node) D.eq
+            (vote_format S.Signature.format D.format) L.is_full L.is_honest L.may_leave
+            L.is_copied_as self.old vote self.new result }
     {
         bytes_are_of_one_journal::<S::Signature, D>();
         self.begins();
@@ -347,10 +269,7 @@ where
             (config_of (⟦<S as NodeConfigs<D>>⟧.of self.old.node) past view)
             (view_history view past) vote))) }
         ensures refused { OnErr result (self.new ≡ self.old) }
-        ensures same { SameNode self.old.node self.new.node }
-        ensures journal { self.new.journal ≡ self.old.journal }
-        ensures knowledge { self.new.knowledge ≡ self.old.knowledge }
-        ensures waits { self.new.waits ≡ self.old.waits }
+        ensures frame { OnlyNode self.old self.new }
     {
         self.node.promises();
         self.node.cast_vote(vote)

@@ -1,17 +1,15 @@
 //! The constructions of a voter's node by verdicts from elsewhere.
 
-ghost use Rattle.std.specs.Prelude.{◌≡◌, IfOk, IfSome, None, Ok, OnErr, Some, is_some, map, true};
-ghost use Rattle.std.specs.Prelude.{ℕ};
-ghost use Rattle.batcher.specs.Verdicts.{BatchIsAssembled};
+ghost use Rattle.std.specs.Prelude.{◌≡◌, None, Ok, OnErr, Some, map};
 ghost use Rattle.batcher.specs.Verifiers.{IfGiven};
 ghost use Rattle.batcher_node.specs.Events.{constructed};
-ghost use Rattle.batcher_node.specs.Nodes.{IsNext, SameNode, slot_at};
+ghost use Rattle.batcher_node.specs.Nodes.{IsNext};
 ghost use Rattle.batcher_node.specs.Represents.{NodeMeets, NextMayNeed};
-ghost use Rattle.batcher_node.specs.Verdicts.{LooksAtThere};
+ghost use Rattle.batcher_node.specs.Verdicts.{GivesByVerdicts};
 ghost use Rattle.batcher_voter.specs.Knowledge.{HasRoom};
 ghost use Rattle.batcher_voter.specs.Needing.{ConstructionNeeds};
-ghost use Rattle.batcher_voter.specs.Voting.{IsOfItsView, VoterMeets, VoterStays};
-ghost use Rattle.batcher_bytes.specs.Copies.{KeepsCopy};
+ghost use Rattle.batcher_voter.specs.Voting.{IsOfItsView, VoterMeets, VoterStays, SameVoter};
+ghost use Rattle.batcher_voter.specs.Voting.{OnlyNode, VoterKeepsNode};
 
 use crate::calls::certificate_in;
 use crate::voter::Voter;
@@ -45,27 +43,16 @@ where
         ensures meets { IfGiven result (λ one.
             VoterMeets (⟦<S as NodeConfigs<D>>⟧.of self.old.node) self.old self.new
             (constructed one.view.0 one.batch)) }
-        ensures gives { IfGiven result (λ one. is_some one.batch ≡ true) }
-        ensures assembled { IfGiven result (λ one. IfSome one.batch
-            (BatchIsAssembled (S.meaning self.old.node.scheme))) }
-        ensures next { IfGiven result (λ one. IsNext self.old.node.rounds one.view.0) }
-        ensures looks_at { IfGiven result (λ one. LooksAtThere ⟦<S as RoundConfigs<D>>⟧.of
-            (slot_at self.old.node.rounds one.view.0) subject list.now) }
-        ensures not_stale { (view : ℕ) → IsNext self.old.node.rounds view
-            → LooksAtThere ⟦<S as RoundConfigs<D>>⟧.of (slot_at self.old.node.rounds view) subject
-            list.now → IfOk result (λ given. is_some given ≡ true) }
+        ensures given { GivesByVerdicts (S.meaning self.old.node.scheme)
+            ⟦<S as RoundConfigs<D>>⟧.of self.old.node.rounds subject list.now result }
         ensures stale { result ≡ Ok None → self.new.node ≡ self.old.node }
         ensures stale_stays { result ≡ Ok None
             → VoterStays (⟦<S as NodeConfigs<D>>⟧.of self.old.node) self.old self.new }
         ensures needed { OnErr result
             (ConstructionNeeds (⟦<S as NodeConfigs<D>>⟧.of self.old.node) self.old) }
-        ensures refused { OnErr result (self.new.node ≡ self.old.node) }
-        ensures stays { OnErr result
-            (VoterStays (⟦<S as NodeConfigs<D>>⟧.of self.old.node) self.old self.new) }
-        ensures same { SameNode self.old.node self.new.node }
-        ensures contents { self.new.journal.contents ≡ self.old.journal.contents }
-        ensures open { self.new.journal.is_open ≡ self.old.journal.is_open }
-        ensures copied { KeepsCopy L.is_copied_as self.old.journal.log self.new.journal.log }
+        ensures refused { OnErr result
+            (VoterKeepsNode (⟦<S as NodeConfigs<D>>⟧.of self.old.node) self.old self.new) }
+        ensures frame { SameVoter L.is_copied_as self.old self.new }
     {
         match self.next_construction() {
             Some(view) => match self.make_ready(view.0, waiting) {
@@ -95,23 +82,13 @@ where
         ensures meets { IfGiven result (λ one.
             VoterMeets (⟦<S as NodeConfigs<D>>⟧.of self.old.node) self.old self.new
             (constructed one.view.0 one.batch)) }
-        ensures gives { IfGiven result (λ one. is_some one.batch ≡ true) }
-        ensures assembled { IfGiven result (λ one. IfSome one.batch
-            (BatchIsAssembled (S.meaning self.old.node.scheme))) }
-        ensures next { IfGiven result (λ one. IsNext self.old.node.rounds one.view.0) }
-        ensures looks_at { IfGiven result (λ one. LooksAtThere ⟦<S as RoundConfigs<D>>⟧.of
-            (slot_at self.old.node.rounds one.view.0) subject list.now) }
-        ensures not_stale { (view : ℕ) → IsNext self.old.node.rounds view
-            → LooksAtThere ⟦<S as RoundConfigs<D>>⟧.of (slot_at self.old.node.rounds view) subject
-            list.now → IfOk result (λ given. is_some given ≡ true) }
+        ensures given { GivesByVerdicts (S.meaning self.old.node.scheme)
+            ⟦<S as RoundConfigs<D>>⟧.of self.old.node.rounds subject list.now result }
         ensures stale { result ≡ Ok None → self.new ≡ self.old }
         ensures needed { OnErr result
             (NextMayNeed (⟦<S as NodeConfigs<D>>⟧.of self.old.node) self.old.node) }
         ensures refused { OnErr result (self.new ≡ self.old) }
-        ensures same { SameNode self.old.node self.new.node }
-        ensures contents { self.new.journal.contents ≡ self.old.journal.contents }
-        ensures open { self.new.journal.is_open ≡ self.old.journal.is_open }
-        ensures copied { KeepsCopy L.is_copied_as self.old.journal.log self.new.journal.log }
+        ensures frame { SameVoter L.is_copied_as self.old self.new }
     {
         self.begins();
         self.has_history();
@@ -144,23 +121,13 @@ where
             self.old.node (constructed one.view.0 one.batch) self.new.node) }
         ensures view { IfGiven result (λ one. one.view ≡ view) }
         ensures of_view { IfGiven result (IsOfItsView self.old.node.epoch) }
-        ensures gives { IfGiven result (λ one. is_some one.batch ≡ true) }
-        ensures assembled { IfGiven result (λ one. IfSome one.batch
-            (BatchIsAssembled (S.meaning self.old.node.scheme))) }
-        ensures next { IfGiven result (λ one. IsNext self.old.node.rounds one.view.0) }
-        ensures looks_at { IfGiven result (λ one. LooksAtThere ⟦<S as RoundConfigs<D>>⟧.of
-            (slot_at self.old.node.rounds one.view.0) subject list.now) }
-        ensures not_stale { (view : ℕ) → IsNext self.old.node.rounds view
-            → LooksAtThere ⟦<S as RoundConfigs<D>>⟧.of (slot_at self.old.node.rounds view) subject
-            list.now → IfOk result (λ given. is_some given ≡ true) }
+        ensures given { GivesByVerdicts (S.meaning self.old.node.scheme)
+            ⟦<S as RoundConfigs<D>>⟧.of self.old.node.rounds subject list.now result }
         ensures stale { result ≡ Ok None → self.new ≡ self.old }
         ensures needed { OnErr result
             (NextMayNeed (⟦<S as NodeConfigs<D>>⟧.of self.old.node) self.old.node) }
         ensures refused { OnErr result (self.new ≡ self.old) }
-        ensures same { SameNode self.old.node self.new.node }
-        ensures journal { self.new.journal ≡ self.old.journal }
-        ensures knowledge { self.new.knowledge ≡ self.old.knowledge }
-        ensures waits { self.new.waits ≡ self.old.waits }
+        ensures frame { OnlyNode self.old self.new }
     {
         match self.ask_conclude(subject, list, verdicts) {
             Ok(Some(made)) => Ok(Some(made)),
@@ -179,23 +146,13 @@ where
         ensures meets { IfGiven result (λ one. NodeMeets (⟦<S as NodeConfigs<D>>⟧.of self.old.node)
             self.old.node (constructed one.view.0 one.batch) self.new.node) }
         ensures of_view { IfGiven result (IsOfItsView self.old.node.epoch) }
-        ensures gives { IfGiven result (λ one. is_some one.batch ≡ true) }
-        ensures assembled { IfGiven result (λ one. IfSome one.batch
-            (BatchIsAssembled (S.meaning self.old.node.scheme))) }
-        ensures next { IfGiven result (λ one. IsNext self.old.node.rounds one.view.0) }
-        ensures looks_at { IfGiven result (λ one. LooksAtThere ⟦<S as RoundConfigs<D>>⟧.of
-            (slot_at self.old.node.rounds one.view.0) subject list.now) }
-        ensures not_stale { (view : ℕ) → IsNext self.old.node.rounds view
-            → LooksAtThere ⟦<S as RoundConfigs<D>>⟧.of (slot_at self.old.node.rounds view) subject
-            list.now → IfOk result (λ given. is_some given ≡ true) }
+        ensures given { GivesByVerdicts (S.meaning self.old.node.scheme)
+            ⟦<S as RoundConfigs<D>>⟧.of self.old.node.rounds subject list.now result }
         ensures stale { result ≡ Ok None → self.new ≡ self.old }
         ensures needed { OnErr result
             (NextMayNeed (⟦<S as NodeConfigs<D>>⟧.of self.old.node) self.old.node) }
         ensures refused { OnErr result (self.new ≡ self.old) }
-        ensures same { SameNode self.old.node self.new.node }
-        ensures journal { self.new.journal ≡ self.old.journal }
-        ensures knowledge { self.new.knowledge ≡ self.old.knowledge }
-        ensures waits { self.new.waits ≡ self.old.waits }
+        ensures frame { OnlyNode self.old self.new }
     {
         self.node.promises();
         let made = self.node.conclude(subject, list, verdicts);

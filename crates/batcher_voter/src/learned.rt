@@ -1,8 +1,7 @@
 //! What is learned of certificates, and how they are kept for the disk.
 
-ghost use Rattle.std.specs.Prelude.{◌≡◌, ◌≢◌, ◌<◌, ◌≤◌, Err, IfOk, MatchBool, None};
-ghost use Rattle.std.specs.Prelude.{Ok, OnErr, OnOk, Some, is_some, true};
-ghost use Rattle.std.specs.Prelude.{false};
+ghost use Rattle.std.specs.Prelude.{◌≡◌, ◌≢◌, ◌<◌, ◌≤◌, Err, IfOk, MatchBool, None, Ok, OnErr};
+ghost use Rattle.std.specs.Prelude.{OnOk, Some, is_some, true, false};
 ghost use Rattle.batcher.specs.Votes.{round_in, subject_certified};
 ghost use Rattle.batcher.specs.Verifiers.{certifies_itself};
 ghost use Rattle.batcher.specs.messages.Subject.{Subject as TheSubject};
@@ -13,7 +12,7 @@ ghost use Rattle.batcher_voter.specs.Keeping.{IsKeptAmong, IsKnownAlready, IsSaf
 ghost use Rattle.batcher_voter.specs.Keeping.{WaitsFor};
 ghost use Rattle.batcher_voter.specs.Unstarted.{IsVouched};
 ghost use Rattle.batcher_voter.specs.Knowledge.{HasRoom, SameKnowledge, Learns};
-ghost use Rattle.batcher_voter.specs.Voting.{VoterStays};
+ghost use Rattle.batcher_voter.specs.Voting.{VoterStays, SameOnDisk};
 
 use crate::voter::Voter;
 use batcher::messages::{Certificate, Digest, Identical, Subject};
@@ -40,10 +39,7 @@ where
         requires none { self.old.waits ≡ None }
         ensures learns { Learns (subject_certified certificate.now) self.old.knowledge
             self.new.knowledge }
-        ensures node { self.new.node ≡ self.old.node }
-        ensures contents { self.new.journal.contents ≡ self.old.journal.contents }
-        ensures open { self.new.journal.is_open ≡ self.old.journal.is_open }
-        ensures log { self.new.journal.log ≡ self.old.journal.log }
+        ensures frame { SameOnDisk self.old self.new }
     {
         match self.learn_if_kept(certificate) {
             Ok(()) => {}
@@ -67,10 +63,7 @@ where
         ensures needed { OnErr result
             (IsKnownAlready self.old.knowledge (subject_certified certificate.now) → ⊥) }
         ensures err { OnErr result (self.new ≡ self.old) }
-        ensures node { self.new.node ≡ self.old.node }
-        ensures contents { self.new.journal.contents ≡ self.old.journal.contents }
-        ensures open { self.new.journal.is_open ≡ self.old.journal.is_open }
-        ensures log { self.new.journal.log ≡ self.old.journal.log }
+        ensures frame { SameOnDisk self.old self.new }
     {
         if self.has(certificate) {
             self.note_known(certificate.subject());
@@ -177,11 +170,8 @@ where
         ensures kept { OnOk result (self.old.waits ≡ Some (subject_certified certificate.now)
             → self.new.waits ≡ None) }
         ensures none { self.old.waits ≡ None → self.new.waits ≡ None }
-        ensures node { self.new.node ≡ self.old.node }
         ensures knowledge { self.new.knowledge ≡ self.old.knowledge }
-        ensures contents { self.new.journal.contents ≡ self.old.journal.contents }
-        ensures open { self.new.journal.is_open ≡ self.old.journal.is_open }
-        ensures log { self.new.journal.log ≡ self.old.journal.log }
+        ensures frame { SameOnDisk self.old self.new }
     {
         if !self.is_waiting(&certificate.subject()) {
             return Ok(());
@@ -235,10 +225,7 @@ where
             → ⊥) }
         ensures stays { VoterStays (⟦<S as NodeConfigs<D>>⟧.of self.old.node) self.old self.new }
         ensures knowledge { SameKnowledge self.old.knowledge self.new.knowledge }
-        ensures node { self.new.node ≡ self.old.node }
-        ensures contents { self.new.journal.contents ≡ self.old.journal.contents }
-        ensures open { self.new.journal.is_open ≡ self.old.journal.is_open }
-        ensures log { self.new.journal.log ≡ self.old.journal.log }
+        ensures frame { SameOnDisk self.old self.new }
     {
         self.keep_given(waiting);
         if self.has_waiting() {
@@ -253,11 +240,8 @@ where
     // Keeps the certificate that waits for memory, if it is given, and as far as there is memory.
     pub(crate) fn keep_given(&mut self, waiting: Option<&Certificate<S::Certificate, D>>)
         ensures none { self.old.waits ≡ None → self.new.waits ≡ None }
-        ensures node { self.new.node ≡ self.old.node }
         ensures knowledge { self.new.knowledge ≡ self.old.knowledge }
-        ensures contents { self.new.journal.contents ≡ self.old.journal.contents }
-        ensures open { self.new.journal.is_open ≡ self.old.journal.is_open }
-        ensures log { self.new.journal.log ≡ self.old.journal.log }
+        ensures frame { SameOnDisk self.old self.new }
     {
         match waiting {
             Some(certificate) => match self.keep_again(certificate) {

@@ -1,15 +1,12 @@
 //! A view is made the final one.
 
-ghost use Rattle.std.specs.Prelude.{◌≡◌, ◌≢◌, ◌<◌, ◌≤◌, ◌⊎◌, ◌∷◌, Err, List, Ok, OnErr, OnOk, ℕ};
-ghost use Rattle.std.specs.Prelude.{true, false};
+ghost use Rattle.std.specs.Prelude.{◌≡◌, ◌<◌, ◌≤◌, Err, List, Ok, OnErr, OnOk, ℕ, true, false};
 ghost use Rattle.batcher.specs.Votes.{kind_certified, round_in, subject_certified};
-ghost use Rattle.batcher_agreement.specs.Lives.{called, verified};
 ghost use Rattle.batcher_node.specs.Events.{view_finalized};
 ghost use Rattle.batcher_journal.specs.Ready.{HasContents, IsAsBefore, IsTooLongFor, RaiseLeaves};
 ghost use Rattle.batcher_journal.specs.Ready.{raised};
 ghost use Rattle.batcher_bytes.specs.Messages.{certificate_format, vote_format};
 ghost use Rattle.batcher_journal.specs.Floors.{is_below};
-ghost use Rattle.batcher_voter.specs.Journals.{IsRaised, IsTooLongToFinalize};
 ghost use Rattle.batcher_journal.specs.declared.journal.RaiseFault.TheVariants.{Closed as RaiseClosed};
 ghost use Rattle.batcher_journal.specs.declared.journal.RaiseFault.TheVariants.{Full as RaiseFull};
 ghost use Rattle.batcher_journal.specs.declared.journal.RaiseFault.TheVariants.{Lower};
@@ -23,8 +20,8 @@ ghost use Rattle.batcher_voter.specs.Keeping.{IsFinalOf, WaitsFor};
 ghost use Rattle.batcher.specs.messages.Subject.{Subject as TheSubject};
 ghost use Rattle.batcher_voter.specs.Knowledge.{Forgets, HasRoom};
 ghost use Rattle.batcher_voter.specs.Unstarted.{HasFinalization};
-ghost use Rattle.batcher_voter.specs.Voting.{ForEachLife, IsVoting, VoterStays, LeavesWhatWasDone};
 ghost use Rattle.batcher_bytes.specs.Copies.{KeepsCopy};
+ghost use Rattle.batcher_voter.specs.Finalizing.{Finalizes};
 
 use crate::answers::FinalizeFault;
 use crate::learned::encoded;
@@ -47,44 +44,10 @@ where
         &mut self,
         finalization: &Certificate<S::Certificate, D>,
     ) -> Result<(), FinalizeFault>
-        ensures meets { OnOk result (ForEachLife (⟦<S as NodeConfigs<D>>⟧.of self.old.node) self.old
-            (λ past earlier. IsVoting (⟦<S as NodeConfigs<D>>⟧.of self.old.node)
-            (called (view_finalized (round_in (subject_certified finalization.now)).view.0)
-            ∷ verified finalization.now ∷ past) earlier self.new)) }
-        ensures begins { OnOk result (self.new.node.window.finalized
-            ≡ (round_in (subject_certified finalization.now)).view.0) }
-        ensures kind { OnOk result (kind_certified finalization.now ≡ Finalization) }
-        ensures stays { OnErr result
-            (VoterStays (⟦<S as NodeConfigs<D>>⟧.of self.old.node) self.old self.new) }
-        ensures refused { OnErr result (self.new.node ≡ self.old.node) }
-        ensures forged { result ≡ Err FinalizeFault.Forged
-            → certifies_itself (S.meaning self.old.node.scheme) finalization.now ≡ false }
-        ensures of_epoch { result ≡ Err FinalizeFault.NotOfEpoch
-            → (kind_certified finalization.now ≢ Finalization)
-            ⊎ ((round_in (subject_certified finalization.now)).epoch ≢ self.old.node.epoch) }
-        ensures passed { result ≡ Err FinalizeFault.Passed
-            → (round_in (subject_certified finalization.now)).view.0
-            < self.old.node.window.finalized }
-        ensures closed { result ≡ Err FinalizeFault.Closed → self.new.journal.is_open ≡ false }
-        ensures memory { result ≡ Err FinalizeFault.OutOfMemory
-            → self.new.journal.is_open ≡ self.old.journal.is_open }
-        ensures full { result ≡ Err FinalizeFault.Full
-            → self.new.journal.is_open ≡ self.old.journal.is_open }
-        ensures too_long { result ≡ Err FinalizeFault.Full
-            → IsTooLongToFinalize (vote_format S.Signature.format D.format)
-            (certificate_format S.Certificate.format D.format) L.is_too_small finalization.now
-            self.old.journal }
-        ensures leaves { (left : List ℕ) → self.old.journal.is_open ≡ true
-            → L.is_honest self.new.journal.log → L.may_leave self.new.journal.log left
-            → ForEachLife (⟦<S as NodeConfigs<D>>⟧.of self.old.node) self.old (λ past earlier.
-            LeavesWhatWasDone (vote_format S.Signature.format D.format) past earlier left) }
-        ensures same { SameNode self.old.node self.new.node }
-        ensures raised { OnOk result (IsRaised (round_in (subject_certified finalization.now))
-            self.old.journal self.new.journal) }
-        ensures unraised { OnErr result (self.new.journal.is_open ≡ true
-            → (self.old.journal.is_open ≡ true)
-            × (self.new.journal.contents ≡ self.old.journal.contents)) }
-        ensures copied { KeepsCopy L.is_copied_as self.old.journal.log self.new.journal.log }
+        ensures { Finalizes (⟦<S as NodeConfigs<D>>⟧.of self.old.node)
+            (vote_format S.Signature.format D.format)
+            (certificate_format S.Certificate.format D.format) L.is_too_small L.is_honest
+            L.may_leave L.is_copied_as self.old finalization.now self.new result }
     {
         self.begins();
         self.leaves_what_was_done();
@@ -121,38 +84,10 @@ where
         requires room { HasRoom self.old.knowledge
             (round_in (subject_certified finalization.now)).view.0 }
         requires kind { kind_certified finalization.now ≡ Finalization }
-        ensures meets { OnOk result (ForEachLife (⟦<S as NodeConfigs<D>>⟧.of self.old.node) self.old
-            (λ past earlier. IsVoting (⟦<S as NodeConfigs<D>>⟧.of self.old.node)
-            (called (view_finalized (round_in (subject_certified finalization.now)).view.0)
-            ∷ verified finalization.now ∷ past) earlier self.new)) }
-        ensures begins { OnOk result (self.new.node.window.finalized
-            ≡ (round_in (subject_certified finalization.now)).view.0) }
-        ensures stays { OnErr result
-            (VoterStays (⟦<S as NodeConfigs<D>>⟧.of self.old.node) self.old self.new) }
-        ensures refused { OnErr result (self.new.node ≡ self.old.node) }
-        ensures forged { result ≡ Err FinalizeFault.Forged → ⊥ }
-        ensures of_epoch { result ≡ Err FinalizeFault.NotOfEpoch → ⊥ }
-        ensures passed { result ≡ Err FinalizeFault.Passed → ⊥ }
-        ensures closed { result ≡ Err FinalizeFault.Closed → self.new.journal.is_open ≡ false }
-        ensures memory { result ≡ Err FinalizeFault.OutOfMemory
-            → self.new.journal.is_open ≡ self.old.journal.is_open }
-        ensures full { result ≡ Err FinalizeFault.Full
-            → self.new.journal.is_open ≡ self.old.journal.is_open }
-        ensures too_long { result ≡ Err FinalizeFault.Full
-            → IsTooLongToFinalize (vote_format S.Signature.format D.format)
-            (certificate_format S.Certificate.format D.format) L.is_too_small finalization.now
-            self.old.journal }
-        ensures leaves { (left : List ℕ) → self.old.journal.is_open ≡ true
-            → L.is_honest self.new.journal.log → L.may_leave self.new.journal.log left
-            → ForEachLife (⟦<S as NodeConfigs<D>>⟧.of self.old.node) self.old (λ past earlier.
-            LeavesWhatWasDone (vote_format S.Signature.format D.format) past earlier left) }
-        ensures same { SameNode self.old.node self.new.node }
-        ensures raised { OnOk result (IsRaised (round_in (subject_certified finalization.now))
-            self.old.journal self.new.journal) }
-        ensures unraised { OnErr result (self.new.journal.is_open ≡ true
-            → (self.old.journal.is_open ≡ true)
-            × (self.new.journal.contents ≡ self.old.journal.contents)) }
-        ensures copied { KeepsCopy L.is_copied_as self.old.journal.log self.new.journal.log }
+        ensures { Finalizes (⟦<S as NodeConfigs<D>>⟧.of self.old.node)
+            (vote_format S.Signature.format D.format)
+            (certificate_format S.Certificate.format D.format) L.is_too_small L.is_honest
+            L.may_leave L.is_copied_as self.old finalization.now self.new result }
     {
         self.begins();
         self.leaves_what_was_done();

@@ -21,7 +21,7 @@ ghost use Rattle.batcher_agreement.specs.Policy.{Conduct, KeepsPolicy};
 ghost use Rattle.batcher_node.specs.Events.{started};
 ghost use Rattle.batcher_node.specs.Represents.{NodeRepresents};
 ghost use Rattle.batcher_voter.specs.Remembering.{Remembers};
-ghost use Rattle.batcher_voter.specs.Voting.{HasStarted};
+ghost use Rattle.batcher_voter.specs.Voting.{HasStarted, IsMadeOf};
 
 use crate::answers::StartFault;
 use crate::knowledge::Knowledge;
@@ -67,15 +67,8 @@ where
         ensures knows_kept { IfOk result (λ voter. All (IsTakenIn
             (certificate_format S.Certificate.format D.format) voter.node.epoch voter.knowledge)
             journal.contents.certificates) }
-        ensures scheme { IfOk result (λ voter. voter.node.scheme ≡ scheme.value) }
-        ensures epoch { IfOk result (λ voter. voter.node.epoch ≡ journal.contents.floor.epoch) }
-        ensures retains { IfOk result (λ voter. voter.node.retains ≡ track_historical_votes) }
-        ensures window { IfOk result (λ voter. voter.node.window ≡ record {
-          finalized = journal.contents.floor.view.0;
-          current = journal.contents.floor.view.0;
-          ahead = ahead;
-        }) }
-        ensures journal { IfOk result (λ voter. voter.journal ≡ journal) }
+        ensures made { IfOk result
+            (IsMadeOf scheme.value ahead track_historical_votes journal) }
         ensures refused { IfErr result (λ it. it.journal ≡ journal) }
         // Also what isn't written yet has to be readable, since its next write puts that there.
         ensures why { IfErr result (λ it. WhyNotStarted
@@ -108,15 +101,8 @@ where
             (⟦<S as NodeConfigs<D>>⟧.of voter.node) (started voter.node.window ∷ []) voter.node) }
         ensures nothing { IfOk result (λ voter. HasLearned voter.knowledge []) }
         ensures highest { IfOk result (λ voter. IsHighest voter.knowledge []) }
-        ensures scheme { IfOk result (λ voter. voter.node.scheme ≡ scheme.value) }
-        ensures epoch { IfOk result (λ voter. voter.node.epoch ≡ journal.contents.floor.epoch) }
-        ensures retains { IfOk result (λ voter. voter.node.retains ≡ track_historical_votes) }
-        ensures window { IfOk result (λ voter. voter.node.window ≡ record {
-          finalized = journal.contents.floor.view.0;
-          current = journal.contents.floor.view.0;
-          ahead = ahead;
-        }) }
-        ensures journal { IfOk result (λ voter. voter.journal ≡ journal) }
+        ensures made { IfOk result
+            (IsMadeOf scheme.value ahead track_historical_votes journal) }
         ensures readable { IfOk result (λ voter. AreReadable
             (certificate_format S.Certificate.format D.format) journal.contents
             (certifies_itself (S.meaning scheme.value))) }

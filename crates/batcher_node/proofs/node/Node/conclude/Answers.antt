@@ -48,16 +48,30 @@ invariant_of-self-2 g c = (
   c.conclude.ensures.listed,
 )
 
-pub returns-in_default-2-clause-not_stale : goal.returns-in_default-2-clause-not_stale
-returns-in_default-2-clause-not_stale g c = λ view next looks.
-    let is = one_next c.args.self.now.rounds view c.in-Some.next next
-    (record { changed = search rules; lowest = search rules }) in
-    sym (ap is_some c.in_default-2.is)
-    ∙ (c.in_ok-batch.ensures.not_stale (rw (← c.self.view_is) at (subst (λ v. LooksAtThere (round_config g.S.Scheme.meaning g.S.PublicKey.Ord.cmp
-    g.S.Signature.PartialEq.eq g.D.PartialEq.eq) (slot_at c.args.self.now.rounds v) c.args.subject c.args.list.now) is looks)))
+pub returns-in_default-2-clause-given : goal.returns-in_default-2-clause-given
+returns-in_default-2-clause-given g c =
+    record {
+      gives = tt;
+      assembled = tt;
+      next = tt;
+      looks_at = tt;
+      not_stale = λ view next looks.
+          let is = one_next c.args.self.now.rounds view c.in-Some.next next
+          (record { changed = search rules; lowest = search rules }) in
+          sym (ap is_some c.in_default-2.is)
+          ∙ (c.in_ok-batch.ensures.not_stale (rw (← c.self.view_is) at (subst (λ v. LooksAtThere (round_config g.S.Scheme.meaning g.S.PublicKey.Ord.cmp
+          g.S.Signature.PartialEq.eq g.D.PartialEq.eq) (slot_at c.args.self.now.rounds v) c.args.subject c.args.list.now) is looks)));
+    }
 
-pub returns-clause-looks_at : goal.returns-clause-looks_at
-returns-clause-looks_at g c = rw (← c.self.view_is) (rw c.in-Some-2.is at c.in_ok-batch.ensures.looks_at)
+pub returns-clause-given : goal.returns-clause-given
+returns-clause-given g c =
+    record {
+      gives = search rules;
+      assembled = search rules;
+      next = search rules;
+      looks_at = rw (← c.self.view_is) (rw c.in-Some-2.is at c.in_ok-batch.ensures.looks_at);
+      not_stale = λ view next looks. refl;
+    }
 
 pub returns-in_err-batch-clause-needed : goal.returns-in_err-batch-clause-needed
 returns-in_err-batch-clause-needed g c =

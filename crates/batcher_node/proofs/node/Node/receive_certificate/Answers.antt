@@ -1,4 +1,5 @@
-use Rattle.batcher_node.proofs.Words.{◌∷◌, ◌∙◌, sym, refl, rules, ap, subst, CertificateCall, round_config, round_in, subject_certified, IsNode, Answered}
+use Rattle.batcher_node.proofs.Words.{◌∷◌, ◌∙◌, sym, refl, rules, ap, subst, CertificateCall, CertificateMayNeed, node_config, round_config, round_in}
+use Rattle.batcher_node.proofs.Words.{subject_certified, IsNode, Answered}
 use Rattle.batcher_node.proofs.Words.{Recorded, Forged, certificate_came}
 use Rattle.batcher_node.proofs.Calling.{if_ok, needs_refused, on_err}
 use Rattle.batcher_node.proofs.Answering.{needed_there, not_far, certified_there, certificate_told, certificate_forged}
@@ -100,9 +101,15 @@ invariant_of-self g c = (
 pub returns-in_err-changed-clause-needed : goal.returns-in_err-changed-clause-needed
 returns-in_err-changed-clause-needed g c =
     let number = c.round-number.ensures in
-    rw (← c.self.view_is) (on_err _ (needed_there g.S.Scheme.meaning g.S.PublicKey.Ord.cmp g.S.Signature.PartialEq.eq g.D.PartialEq.eq _
-    (round_in (subject_certified c.args.certificate.now)).view.0 (CertificateCall c.args.certificate.now) _
-    c.self.invariant.0.tended
-    (rw (← number) (needs_refused (round_config g.S.Scheme.meaning g.S.PublicKey.Ord.cmp
-    g.S.Signature.PartialEq.eq g.D.PartialEq.eq) (CertificateCall c.args.certificate.now) _ _ _
-    c.in_ok-call.ensures.named _ c.in_err-changed.was))))
+    let why : CertificateMayNeed (node_config g.S.Scheme.meaning g.S.PublicKey.Ord.cmp
+    g.S.Signature.PartialEq.eq g.D.PartialEq.eq c.args.self.now) c.args.self.now c.args.peer c.args.certificate.now = record {
+      certifies = search rules;
+      heard = search rules;
+      needs = rw (← c.self.view_is) (needed_there g.S.Scheme.meaning g.S.PublicKey.Ord.cmp g.S.Signature.PartialEq.eq g.D.PartialEq.eq _
+          (round_in (subject_certified c.args.certificate.now)).view.0 (CertificateCall c.args.certificate.now) _
+          c.self.invariant.0.tended
+          (rw (← number) (needs_refused (round_config g.S.Scheme.meaning g.S.PublicKey.Ord.cmp
+          g.S.Signature.PartialEq.eq g.D.PartialEq.eq) (CertificateCall c.args.certificate.now) _ _ _
+          c.in_ok-call.ensures.named _ c.in_err-changed.was)));
+    } in
+    on_err _ why

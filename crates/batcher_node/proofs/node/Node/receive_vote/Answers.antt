@@ -1,4 +1,5 @@
-use Rattle.batcher_node.proofs.Words.{◌∷◌, ◌∙◌, sym, refl, rules, ap, subst, NetworkCall, round_config, round_in, subject_of, IsNode, Answered, vote_came}
+use Rattle.batcher_node.proofs.Words.{◌∷◌, ◌∙◌, sym, refl, rules, ap, subst, NetworkCall, VoteMayNeed, node_config, round_config, round_in, subject_of, IsNode}
+use Rattle.batcher_node.proofs.Words.{Answered, vote_came}
 use Rattle.batcher_node.proofs.Calling.{if_ok, needs_refused, on_err}
 use Rattle.batcher_node.proofs.Answering.{needed_there, not_far, vote_told}
 use Rattle.batcher_node.proofs.Tending.{still_tended}
@@ -55,8 +56,13 @@ invariant_of-self-2 g c = (
 pub returns-in_err-admission-clause-needed : goal.returns-in_err-admission-clause-needed
 returns-in_err-admission-clause-needed g c =
     let number = c.round-number.ensures in
-    rw (← c.self.view_is) (on_err _ (needed_there g.S.Scheme.meaning g.S.PublicKey.Ord.cmp g.S.Signature.PartialEq.eq g.D.PartialEq.eq _
-    (round_in (subject_of c.args.vote)).view.0 (NetworkCall c.args.peer c.args.vote) _ c.self.invariant.0.tended
-    (rw (← number) (needs_refused (round_config g.S.Scheme.meaning g.S.PublicKey.Ord.cmp
-    g.S.Signature.PartialEq.eq g.D.PartialEq.eq) (NetworkCall c.args.peer c.args.vote) _ _ _
-    c.in_ok-call.ensures.named _ c.in_err-admission.was))))
+    let why : VoteMayNeed (node_config g.S.Scheme.meaning g.S.PublicKey.Ord.cmp
+    g.S.Signature.PartialEq.eq g.D.PartialEq.eq c.args.self.now) c.args.self.now c.args.peer c.args.vote = record {
+      heard = search rules;
+      needs = rw (← c.self.view_is) (needed_there g.S.Scheme.meaning g.S.PublicKey.Ord.cmp g.S.Signature.PartialEq.eq g.D.PartialEq.eq _
+          (round_in (subject_of c.args.vote)).view.0 (NetworkCall c.args.peer c.args.vote) _ c.self.invariant.0.tended
+          (rw (← number) (needs_refused (round_config g.S.Scheme.meaning g.S.PublicKey.Ord.cmp
+          g.S.Signature.PartialEq.eq g.D.PartialEq.eq) (NetworkCall c.args.peer c.args.vote) _ _ _
+          c.in_ok-call.ensures.named _ c.in_err-admission.was)));
+    } in
+    on_err _ why

@@ -7,7 +7,7 @@ use Rattle.batcher_validator.proofs.starting.Validator+Signed+T+true+Sha256Diges
 
 pub returns-in-Ok-start-clause-running : goal.returns-in-Ok-start-clause-running
 returns-in-Ok-start-clause-running g c = λ earlier policy remembers.
-    c.in-Ok-start.ensures.running earlier policy (rw c.in-Ok-start.ensures.journal at remembers)
+    c.in-Ok-start.ensures.running earlier policy (rw c.in-Ok-start.ensures.made.journal_is at remembers)
 
 pub returns-clause-why : goal.returns-clause-why
 returns-clause-why g c = λ fault same.

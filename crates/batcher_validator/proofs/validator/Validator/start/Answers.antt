@@ -12,7 +12,7 @@ returns-in-Ok-recall-clause-running g c = λ earlier keeps has.
     let config = node_config g.S.Scheme.meaning g.S.PublicKey.Ord.cmp g.S.Signature.PartialEq.eq
     g.D.PartialEq.eq in
     let first = c.of-validator.result in
-    let journal = ap (λ v. v.journal) c.of-validator.ensures.voter ∙ c.in-Ok-start.ensures.journal in
+    let journal = ap (λ v. v.journal) c.of-validator.ensures.voter ∙ c.in-Ok-start.ensures.made.journal_is in
     let started = subst (λ v. HasStarted (config v.node) earlier v) (sym c.of-validator.ensures.voter)
     (c.in-Ok-start.ensures.voting earlier keeps has) in
     has_begun config (certificate_format g.S.Certificate.OwnedCodec.format g.D.Codec.format) first
@@ -30,7 +30,7 @@ returns-in-Ok-recall-clause-running g c = λ earlier keeps has.
     (still_fresh c.in-Ok-new.presence c.in-Ok-new.ensures
     (c.len-2.ensures.count ∙ ap length (c.participants-2.ensures
     ∙ ap (λ s. (g.S.Scheme.meaning s).participants) (c.deref-2.ensures
-    ∙ sym (ap (λ v. v.node.scheme) c.of-validator.ensures.voter ∙ c.in-Ok-start.ensures.scheme)))))
+    ∙ sym (ap (λ v. v.node.scheme) c.of-validator.ensures.voter ∙ c.in-Ok-start.ensures.made.scheme_is)))))
     c.of-validator.ensures.given c.of-validator.ensures.empty c.of-validator.ensures.handed started)
     c.in-Ok-recall.ensures.recalls c.recall.ensures.node c.recall.ensures.journal
 
@@ -60,7 +60,7 @@ returns-in-Err-recall-clause-why g c =
     not_all_started format (certifies_itself (g.S.Scheme.meaning c.args.scheme.value)) c.args.journal
     c.in-Err-recall.fault
     (subst (λ s. WhyNotStarted format c.args.journal.contents (certifies_itself (g.S.Scheme.meaning s))
-    c.in-Err-recall.fault) (ap (λ v. v.node.scheme) c.of-validator.ensures.voter ∙ c.in-Ok-start.ensures.scheme)
+    c.in-Err-recall.fault) (ap (λ v. v.node.scheme) c.of-validator.ensures.voter ∙ c.in-Ok-start.ensures.made.scheme_is)
     (subst (λ j. WhyNotStarted format j.contents (certifies_itself (g.S.Scheme.meaning first.voter.node.scheme))
-    c.in-Err-recall.fault) (ap (λ v. v.journal) c.of-validator.ensures.voter ∙ c.in-Ok-start.ensures.journal)
+    c.in-Err-recall.fault) (ap (λ v. v.journal) c.of-validator.ensures.voter ∙ c.in-Ok-start.ensures.made.journal_is)
     c.in-Err-recall.ensures.why))

@@ -1,4 +1,4 @@
-use Rattle.batcher_validator.proofs.Words.{node_config, answered}
+use Rattle.batcher_validator.proofs.Words.{rules, node_config, answered}
 use Rattle.batcher_validator.proofs.Going.{constructs_roomy, runs_roomy, stays_roomy, with_room}
 use Rattle.batcher_validator.proofs.validator.Validator.try_construct.Goals as goal
 
@@ -20,17 +20,23 @@ returns-in-Ok-construct_with_room-clause-answered g c = λ no.
     c.make_room.ensures.handed
     answered (c.in-Ok-construct_with_room.ensures.answered no)
 
-pub returns-in-Err-construct_with_room-clause-stays :
-    goal.returns-in-Err-construct_with_room-clause-stays
-returns-in-Err-construct_with_room-clause-stays g c =
-    stays_roomy (node_config g.S.Scheme.meaning g.S.PublicKey.Ord.cmp g.S.Signature.PartialEq.eq g.D.PartialEq.eq)
-    c.args.self.now c.make_room.new.self c.construct_with_room.new.self
-    c.make_room.ensures.voter c.make_room.ensures.given c.make_room.ensures.certificates
-    c.make_room.ensures.handed
-    c.in-Err-construct_with_room.ensures.stays
+pub returns-in-Err-construct_with_room-clause-refused :
+    goal.returns-in-Err-construct_with_room-clause-refused
+returns-in-Err-construct_with_room-clause-refused g c = record {
+  node = search rules;
+  stays =
+      stays_roomy (node_config g.S.Scheme.meaning g.S.PublicKey.Ord.cmp g.S.Signature.PartialEq.eq g.D.PartialEq.eq)
+      c.args.self.now c.make_room.new.self c.construct_with_room.new.self
+      c.make_room.ensures.voter c.make_room.ensures.given c.make_room.ensures.certificates
+      c.make_room.ensures.handed
+      c.in-Err-construct_with_room.ensures.refused.stays;
+}
 
-pub returns-in-Err-clause-stays : goal.returns-in-Err-clause-stays
-returns-in-Err-clause-stays g c =
-    with_room (node_config g.S.Scheme.meaning g.S.PublicKey.Ord.cmp g.S.Signature.PartialEq.eq g.D.PartialEq.eq
-    c.args.self.now.voter.node) c.args.self.now c.make_room.new.self
-    c.make_room.ensures.voter c.make_room.ensures.given c.make_room.ensures.certificates c.make_room.ensures.handed
+pub returns-in-Err-clause-refused : goal.returns-in-Err-clause-refused
+returns-in-Err-clause-refused g c = record {
+  node = search rules;
+  stays =
+      with_room (node_config g.S.Scheme.meaning g.S.PublicKey.Ord.cmp g.S.Signature.PartialEq.eq g.D.PartialEq.eq
+      c.args.self.now.voter.node) c.args.self.now c.make_room.new.self
+      c.make_room.ensures.voter c.make_room.ensures.given c.make_room.ensures.certificates c.make_room.ensures.handed;
+}

@@ -23,7 +23,7 @@ pub returns-clause-complete : goal.returns-clause-complete
 returns-clause-complete g c = λ view asked next there.
     let list : c.first.result.0.now ≡ take c.in-Some.known (recorded_of c.args.self.now c.in-Some.subject).list =
     c.first.ensures.list ∙ ap (λ r. take c.in-Some.known r.list) c.of.ensures in
-    c.in_ok-given.ensures.not_stale view next
+    c.in_ok-given.ensures.given.not_stale view next
     (looks_there _ c.args.node.now.rounds c.args.self.now c.in-Some.subject c.in-Some.known c.first.result.0.now
     c.in-Some.ensures.known list view next asked there)
 
@@ -40,4 +40,4 @@ returns-clause-made g c =
       c.in-Some.subject,
       complete_there _ c.args.node.now.rounds c.args.self.now c.in-Some.subject c.in-Some.known c.first.result.0.now
           c.in-Some.ensures.known list one.view.0 next looks,
-    )) c.in_ok-given.ensures.looks_at c.in_ok-given.ensures.next
+    )) c.in_ok-given.ensures.given.looks_at c.in_ok-given.ensures.given.next

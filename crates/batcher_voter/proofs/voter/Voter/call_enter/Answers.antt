@@ -1,7 +1,7 @@
-use Rattle.batcher_voter.proofs.Words.{subst, IsLedByAnother, slot_at}
+use Rattle.batcher_voter.proofs.Words.{IfErr, subst, WhyNotEntered}
 use Rattle.batcher_voter.proofs.voter.Voter.call_enter.Goals as goal
 
-pub returns-clause-led : goal.returns-clause-led
-returns-clause-led g c = λ e.
-    subst (λ voter. IsLedByAnother (slot_at voter.node.rounds c.args.view.0) c.args.leader)
-    c.self.view_is (c.enter.ensures.led e)
+pub returns-clause-why : goal.returns-clause-why
+returns-clause-why g c =
+    subst (λ voter. IfErr c.enter.result (WhyNotEntered voter.node c.args.view.0 c.args.leader))
+    c.self.view_is c.enter.ensures.why

@@ -18,13 +18,13 @@ returns-in-Some-clause-meets g c =
     let of_view : IsOfItsView old.epoch made =
     subst (λ it. IfSome it (IsOfItsView old.epoch)) c.in-Ok-Some.field-0-is c.in-Ok-Some.ensures.of_view in
     learning _ c.args.self.now c.learn.new.self (constructed made.view.0 made.batch)
-    (subst (NodeMeets (config old) old (constructed made.view.0 made.batch)) (sym c.learn.ensures.node) meets)
-    (c.learn.ensures.contents ∙ ap (λ j. j.contents) c.in-Ok-Some.ensures.journal)
-    (c.learn.ensures.open ∙ ap (λ j. j.is_open) c.in-Ok-Some.ensures.journal)
+    (subst (NodeMeets (config old) old (constructed made.view.0 made.batch)) (sym c.learn.ensures.frame.node) meets)
+    (c.learn.ensures.frame.contents ∙ ap (λ j. j.contents) c.in-Ok-Some.ensures.frame.journal)
+    (c.learn.ensures.frame.is_open ∙ ap (λ j. j.is_open) c.in-Ok-Some.ensures.frame.journal)
     (λ earlier past h. h) s
     (given_is_learned g.row.S-PublicKey.Denot g.row.S-Signature.Denot certificate made.view.0 made.batch
     c.in-Some.ensures)
-    (subst (λ k. Learns s k c.learn.new.self.knowledge) c.in-Ok-Some.ensures.knowledge c.learn.ensures.learns)
+    (subst (λ k. Learns s k c.learn.new.self.knowledge) c.in-Ok-Some.ensures.frame.knowledge c.learn.ensures.learns)
     (ap (λ r. r.epoch) (given_is_of old.epoch made.view.0 made.batch certificate c.in-Some.ensures of_view)
     ∙ sym c.begins.ensures.begins.of_epoch)
 
@@ -35,7 +35,7 @@ learn-requires-clause-epoch g c =
     let of_view : IsOfItsView old.epoch made =
     subst (λ it. IfSome it (IsOfItsView old.epoch)) c.in-Ok-Some.field-0-is c.in-Ok-Some.ensures.of_view in
     ap (λ r. r.epoch) (given_is_of old.epoch made.view.0 made.batch c.in-Some.certificate.now c.in-Some.ensures of_view)
-    ∙ sym c.begins.ensures.begins.of_epoch ∙ ap (λ k. k.epoch) (sym c.in-Ok-Some.ensures.knowledge)
+    ∙ sym c.begins.ensures.begins.of_epoch ∙ ap (λ k. k.epoch) (sym c.in-Ok-Some.ensures.frame.knowledge)
 
 pub learn-requires-clause-certifies : goal.learn-requires-clause-certifies
 learn-requires-clause-certifies g c =
@@ -43,7 +43,7 @@ learn-requires-clause-certifies g c =
     let certificate = c.in-Some.certificate.now in
     let config = node_config g.S.Scheme.meaning g.S.PublicKey.Ord.cmp g.S.Signature.PartialEq.eq g.D.PartialEq.eq in
     let old = c.args.self.now.node in
-    let same = c.in-Ok-Some.ensures.same in
+    let same = c.in-Ok-Some.ensures.frame.same in
     let meets : NodeMeets (config old) old (constructed made.view.0 made.batch) c.call_conclude.new.self.node =
     subst
     (λ it. IfSome it (λ one. NodeMeets (config old) old (constructed one.view.0 one.batch) c.call_conclude.new.self.node))

@@ -5,6 +5,6 @@ use Rattle.batcher_voter.proofs.voter.Voter.enter.Goals as goal
 pub returns-in-Ok-clause-meets : goal.returns-in-Ok-clause-meets
 returns-in-Ok-clause-meets g c =
     quiet _ c.args.self.now c.call_enter.new.self (view_entered c.args.view.0 c.args.leader)
-    c.in-Ok.ensures.meets (ap (λ j. j.contents) c.in-Ok.ensures.journal)
-    (ap (λ j. j.is_open) c.in-Ok.ensures.journal) (λ earlier past h. h) refl
-    (same_of _ _ c.in-Ok.ensures.knowledge)
+    c.in-Ok.ensures.meets (ap (λ j. j.contents) c.in-Ok.ensures.frame.journal)
+    (ap (λ j. j.is_open) c.in-Ok.ensures.frame.journal) (λ earlier past h. h) refl
+    (same_of _ _ c.in-Ok.ensures.frame.knowledge)

@@ -12,8 +12,8 @@ pub returns-in-Ok-learn_if_kept-clause-learned : goal.returns-in-Ok-learn_if_kep
 returns-in-Ok-learn_if_kept-clause-learned g c = λ past earlier is.
     let mid = c.make_room.new.self in
     let new = c.learn_if_kept.new.self in
-    learns_one _ mid new c.args.certificate.now c.requires c.learn_if_kept.ensures.node
-    c.learn_if_kept.ensures.contents c.learn_if_kept.ensures.open c.in-Ok-learn_if_kept.ensures.learns
+    learns_one _ mid new c.args.certificate.now c.requires c.learn_if_kept.ensures.frame.node
+    c.learn_if_kept.ensures.frame.contents c.learn_if_kept.ensures.frame.is_open c.in-Ok-learn_if_kept.ensures.learns
     (ap (λ r. r.epoch) (sym c.round-round.ensures) ∙ c.if-not-is_of_epoch.ensures ∙ sym c.begins.ensures.begins.of_epoch
     ∙ sym c.make_room.ensures.knowledge.epoch)
     past earlier (c.make_room.ensures.stays past earlier is)
