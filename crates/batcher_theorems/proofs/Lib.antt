@@ -1,0 +1,2 @@
+mod Finals
+mod Calling
