@@ -3,5 +3,6 @@ pub mod Recording
 pub mod Completing
 pub mod Viewing
 pub mod Waiting
+pub mod Requesting
 mod Plain
 mod Wholes

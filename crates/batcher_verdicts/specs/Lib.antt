@@ -5,3 +5,4 @@ pub mod Waiting
 pub mod Judging
 pub mod Wholes
 pub mod Calls
+pub mod Requests

@@ -16,6 +16,8 @@ mod nodes;
 mod own;
 mod questions;
 mod recorded;
+mod request;
+mod requests;
 mod rounds;
 mod theorems;
 
@@ -29,5 +31,6 @@ pub use own::{AcceptVote, OwnRefusal};
 pub use questions::{
     HasCertificate, HasNullify, IsMissingVoter, Leader, MissingVoters, Promises, Selected,
 };
+pub use requests::Requests;
 pub use rounds::Verdicts;
 pub use theorems::verdicts_stay_while_they_wait;
