@@ -9,6 +9,7 @@
 #define MOST 7
 #define DISK 65536
 #define SHOWN 1024
+#define LENT 32
 #define CHECK(holds)                                                                                \
     do {                                                                                            \
         if (!(holds)) return __LINE__;                                                              \
@@ -16,9 +17,10 @@
 
 static uint64_t state;
 
-/* How many certificates were made by single verdicts and as a whole, votes were bad, calls were out of memory, validators made
- * constructions, and they cast votes. */
-static uint64_t certified, passed, bad, out_of_memory, concluded, signed_votes;
+/* How many certificates were made by single verdicts and as a whole, votes were bad, calls were out
+ * of memory, and how often validators made constructions, took in late verdicts, refused stale ones,
+ * and cast votes. */
+static uint64_t certified, passed, bad, out_of_memory, concluded, late, stale, signed_votes;
 
 /* A number below a bound. */
 static uint64_t below(uint64_t bound) {
@@ -297,33 +299,81 @@ static int write_down(struct batcher_validator *validator, uint8_t *disk, size_t
     return 0;
 }
 
-/* Verdicts on what is lent, or late ones on what isn't. */
-static int conclude_in(struct batcher_validator *validator, uint32_t participants) {
-    struct batcher_attestation list[MOST];
-    struct batcher_step step;
+/* What was handed out by a stamp, with true verdicts on it. */
+struct lent {
+    uint64_t view, stamp;
+    uint8_t kind;
     bool verdicts[MOST];
+    size_t count;
+};
+
+/* What a validator has handed out that is to be answered yet, and how many stamps it has given. */
+static struct lent lent[LENT];
+static size_t kept;
+static uint64_t stamps;
+
+/* What is to be verified is handed out, into a list of any size. Stamps count from 0, and nothing
+ * is written where nothing is handed out. */
+static int lend_in(struct batcher_validator *validator, uint32_t participants) {
+    struct batcher_attestation list[MOST], before[MOST];
+    struct batcher_step step, untouched;
     size_t room = below(3) != 0 ? MOST : below(MOST);
-    memset(&step, 0, sizeof step);
-    uint64_t view = below(3) != 0 ? 0 : below(6);
-    uint8_t kind = (uint8_t)mostly_below(3);
-    uint8_t code = batcher_validator_lend(validator, view, kind, &step, list, room);
-    if (view != 0 && kind > BATCHER_FINALIZATION) {
-        CHECK(code == BATCHER_MALFORMED);
+    uint64_t stamp = UINT64_MAX;
+    memset(list, 0x5a, sizeof list);
+    memcpy(before, list, sizeof list);
+    memset(&step, 0x5a, sizeof step);
+    memcpy(&untouched, &step, sizeof step);
+    uint8_t code = batcher_validator_lend(validator, &step, &stamp, list, room);
+    CHECK((code == BATCHER_SHORT) == (room < participants));
+    if (code != BATCHER_VERIFY) {
+        CHECK(stamp == UINT64_MAX && memcmp(&step, &untouched, sizeof step) == 0 && memcmp(list, before, sizeof list) == 0);
+        MADE(code);
+        CHECK(code == BATCHER_DONE || code == BATCHER_IDLE || code == BATCHER_SHORT);
+        concluded += code == BATCHER_DONE;
         return 0;
     }
-    CHECK((code == BATCHER_SHORT) == (room < participants));
-    if (code == BATCHER_SHORT || code == BATCHER_IDLE) return 0;
+    CHECK(stamp == stamps && step.listed != 0 && step.listed <= participants && step.kind <= BATCHER_FINALIZATION);
+    for (size_t i = step.listed; i < MOST; i++) CHECK(memcmp(&list[i], &before[i], sizeof *list) == 0);
+    stamps++;
+    if (kept == LENT) kept--;
+    struct lent *it = &lent[kept++];
+    memset(it, 0, sizeof *it);
+    it->view = step.proposal.view;
+    it->stamp = stamp;
+    it->kind = step.kind;
+    it->count = step.listed;
+    for (size_t i = 0; i < it->count; i++) it->verdicts[i] = attests(&list[i]);
+    return 0;
+}
+
+/* Verdicts on what was handed out, mostly on the last of it. Sometimes they come by a stamp that
+ * isn't given yet, of another kind or view, or there isn't one on each. What is fresh was handed out
+ * just now, so it is awaited. */
+static int conclude_in(struct batcher_validator *validator, bool is_fresh) {
+    if (kept == 0) return 0;
+    size_t place = below(3) != 0 ? kept - 1 : below(kept);
+    struct lent it = lent[place];
+    uint64_t view = it.view, stamp = it.stamp;
+    uint8_t kind = it.kind;
+    size_t given = it.count;
+    switch (below(16)) {
+    case 0: stamp = stamps + below(3); break;
+    case 1: kind = (uint8_t)mostly_below(3); break;
+    case 2: view = below(6); break;
+    case 3: given = below(MOST + 1); break;
+    }
+    bool is_right = view == it.view && kind == it.kind && stamp == it.stamp && given == it.count;
+    is_fresh = is_fresh && it.stamp + 1 == stamps;
+    uint8_t code = batcher_validator_conclude(validator, view, kind, stamp, it.verdicts, given);
+    CHECK((code == BATCHER_MALFORMED) == (kind > BATCHER_FINALIZATION));
+    CHECK(is_right ? !is_fresh || code != BATCHER_STALE : code == BATCHER_STALE || code == BATCHER_MALFORMED);
     MADE(code);
-    CHECK(code == BATCHER_VERIFY && step.listed <= participants && step.kind <= BATCHER_FINALIZATION);
-    CHECK(view == 0 || (step.proposal.view == view && step.kind == kind));
-    for (uint64_t i = 0; i < step.listed; i++) verdicts[i] = attests(&list[i]);
-    if (below(5) == 0) step.kind = (uint8_t)mostly_below(3);
-    size_t given = below(10) != 0 ? step.listed : below(MOST);
-    code = batcher_validator_conclude(validator, step.kind, &step.proposal, list, step.listed, verdicts, given);
-    MADE(code);
-    CHECK(code == BATCHER_DONE || code == BATCHER_STALE || code == BATCHER_MALFORMED);
-    CHECK(given == step.listed || code == BATCHER_MALFORMED);
+    CHECK(code == BATCHER_DONE || code == BATCHER_IDLE || code == BATCHER_STALE || code == BATCHER_MALFORMED);
     concluded += code == BATCHER_DONE;
+    stale += code == BATCHER_STALE;
+    late += !is_fresh && (code == BATCHER_DONE || code == BATCHER_IDLE);
+    /* Now and then the same comes twice. */
+    if (is_right && below(8) != 0) lent[place] = lent[--kept];
     return 0;
 }
 
@@ -459,7 +509,11 @@ static int one_validator_call(struct batcher_validator *validator, uint32_t part
         CHECK((code == BATCHER_MALFORMED) == (vote.kind > 2));
         if (code == BATCHER_DONE) CHECK(count == (vote.kind == BATCHER_NULLIFICATION ? 26 : 66));
         return 0;
-    case 8: return conclude_in(validator, participants);
+    case 8: {
+        uint64_t given = stamps;
+        int line = lend_in(validator, participants);
+        return line != 0 || below(3) == 0 ? line : conclude_in(validator, given != stamps);
+    }
     default: return poll_once(validator, me, disk, written);
     }
 }
@@ -473,6 +527,8 @@ static int one_validator(uint64_t seed) {
     size_t written = 0;
     state = seed;
     may_refuse = false;
+    kept = 0;
+    stamps = 0;
     memset(&options, 0, sizeof options);
     options.participants = 1 + (uint32_t)below(MOST);
     options.participant = (uint32_t)below(options.participants);
@@ -618,5 +674,5 @@ int main(int count, char **words) {
     }
     /* Where none of these comes up, nothing was tried. */
     return seeds != 0 && (certified < seeds / 8 || passed < seeds / 40 || bad < seeds / 16 || out_of_memory < seeds
-                         || concluded < seeds / 8 || signed_votes < seeds / 8);
+                         || concluded < seeds / 8 || late < seeds / 200 || stale < seeds / 200 || signed_votes < seeds / 8);
 }

@@ -1,6 +1,7 @@
-/* A validator alone, whose own vote is a quorum, with each request for memory refused in turn: the call that made it says so,
- * and made again it goes on as if nothing had been. It is stopped in the middle, and goes on by its disk. It ends with 0,
- * or with 1 where a check failed, and says at which request. */
+/* A validator alone, whose own vote is a quorum, with each request for memory refused in turn: the
+ * call that made it says so, and made again it goes on as if nothing had been. It is stopped in the
+ * middle, and goes on by its disk. Then one of four, with verdicts on votes of the others. It ends
+ * with 0, or with 1 where a check failed, and says at which request. */
 #include "refusing.h"
 #include "votes.h"
 
@@ -53,15 +54,13 @@ static bool cast(struct alone *it, const struct batcher_task *task) {
     return code == BATCHER_DONE || code == BATCHER_KNOWN;
 }
 
+/* Nothing is handed out, since its own votes alone count. */
 static bool verify(struct alone *it) {
     struct batcher_attestation list[1];
     struct batcher_step step;
-    const bool good[] = {true};
-    uint8_t code = AGAIN(batcher_validator_lend(&it->validator, 0, 0, &step, list, 1));
-    if (code == BATCHER_IDLE) return true;
-    return code == BATCHER_VERIFY
-        && AGAIN(batcher_validator_conclude(&it->validator, step.kind, &step.proposal, list, step.listed, good, step.listed))
-        == BATCHER_DONE;
+    uint64_t stamp;
+    uint8_t code = AGAIN(batcher_validator_lend(&it->validator, &step, &stamp, list, 1));
+    return code == BATCHER_DONE || code == BATCHER_IDLE;
 }
 
 static bool perform(struct alone *it, const struct batcher_task *task) {
@@ -105,4 +104,42 @@ static int play(const void *sort) {
     return fine && it.validator.at == NULL;
 }
 
-int main(void) { return each_refused_in_turn("a validator", play, NULL); }
+/* What is handed out of two views is handed out once, and its verdicts come in the other order. */
+static bool hears_others(struct alone *it) {
+    struct batcher_attestation list[PARTICIPANTS];
+    struct batcher_admission admission;
+    struct batcher_step step;
+    const bool good[] = {true, true, true};
+    uint64_t first = 0, second = 0;
+    uint8_t code = AGAIN(batcher_validator_enter(&it->validator, 1, 0));
+    if (code != BATCHER_DONE) return false;
+    for (uint64_t view = 1; view <= 2; view++)
+        for (uint32_t peer = 1; peer < PARTICIPANTS; peer++) {
+            struct batcher_vote vote = vote_of(BATCHER_NULLIFICATION, view, peer, 0);
+            if (AGAIN(batcher_validator_vote(&it->validator, peer, &vote, &admission)) != BATCHER_DONE) return false;
+        }
+    if (AGAIN(batcher_validator_lend(&it->validator, &step, &first, list, PARTICIPANTS)) != BATCHER_VERIFY
+        || step.proposal.view != 1 || step.listed != 3)
+        return false;
+    if (AGAIN(batcher_validator_lend(&it->validator, &step, &second, list, PARTICIPANTS)) != BATCHER_VERIFY
+        || step.proposal.view != 2 || step.listed != 3)
+        return false;
+    if (AGAIN(batcher_validator_lend(&it->validator, &step, &first, list, PARTICIPANTS)) != BATCHER_IDLE) return false;
+    return AGAIN(batcher_validator_conclude(&it->validator, 2, BATCHER_NULLIFICATION, second, good, 3)) == BATCHER_IDLE
+        && AGAIN(batcher_validator_conclude(&it->validator, 1, BATCHER_NULLIFICATION, first, good, 3)) == BATCHER_DONE;
+}
+
+static int play_one_of_four(const void *sort) {
+    static struct alone it;
+    (void)sort;
+    memset(&it, 0, sizeof it);
+    it.options.ahead = 4;
+    it.options.participants = PARTICIPANTS;
+    bool fine = start(&it) && hears_others(&it);
+    batcher_validator_free(&it.validator);
+    return fine;
+}
+
+int main(void) {
+    return each_refused_in_turn("a validator", play, NULL) || each_refused_in_turn("one of four", play_one_of_four, NULL);
+}

@@ -262,12 +262,15 @@ static void cast(const struct batcher_task *task) {
 static void verify(void) {
     struct batcher_attestation list[MOST];
     struct batcher_step step;
+    uint64_t stamp;
     bool verdicts[MOST];
-    uint8_t code = batcher_validator_lend(&validator, 0, 0, &step, list, MOST);
-    if (code == BATCHER_IDLE) return;
-    need(code == BATCHER_VERIFY, batcher_code_text(code));
-    for (uint64_t i = 0; i < step.listed; i++) verdicts[i] = attests(step.kind, &step.proposal, &list[i]);
-    done(batcher_validator_conclude(&validator, step.kind, &step.proposal, list, step.listed, verdicts, step.listed));
+    uint8_t code;
+    while ((code = batcher_validator_lend(&validator, &step, &stamp, list, MOST)) == BATCHER_VERIFY) {
+        for (uint64_t i = 0; i < step.listed; i++) verdicts[i] = attests(step.kind, &step.proposal, &list[i]);
+        code = batcher_validator_conclude(&validator, step.proposal.view, step.kind, stamp, verdicts, step.listed);
+        need(code == BATCHER_DONE || code == BATCHER_IDLE, batcher_code_text(code));
+    }
+    need(code == BATCHER_DONE || code == BATCHER_IDLE, batcher_code_text(code));
 }
 
 static void say_final(void) {

@@ -16,6 +16,7 @@
 #define ROOM 65536
 #define MESSAGES 4096
 #define SHOWN 4096
+#define LENT 64
 #define CHECK(holds)                                                                                \
     do {                                                                                            \
         if (!(holds)) return __LINE__;                                                              \
@@ -252,18 +253,39 @@ static int note_sent(uint32_t me, const struct batcher_vote *vote) {
     return 0;
 }
 
+/* What was handed out by a stamp, with a verdict on each. */
+struct lent {
+    uint64_t view, stamp;
+    uint8_t kind;
+    bool verdicts[VALIDATORS];
+    size_t count;
+};
+
+/* All is handed out that is to be verified by now, and what comes last is answered first. */
 static int verify(uint32_t me) {
     struct validator *it = &all[me];
     struct batcher_attestation list[VALIDATORS];
     struct batcher_step step;
-    bool verdicts[VALIDATORS];
-    CHECK(batcher_validator_lend(&it->inner, 0, 0, &step, list, VALIDATORS - 1) == BATCHER_SHORT);
-    uint8_t code = batcher_validator_lend(&it->inner, 0, 0, &step, list, VALIDATORS);
-    if (code == BATCHER_IDLE) return 0;
-    CHECK(code == BATCHER_VERIFY && step.listed <= VALIDATORS);
-    for (uint64_t i = 0; i < step.listed; i++) verdicts[i] = attests(step.kind, &step.proposal, &list[i]);
-    CHECK(batcher_validator_conclude(&it->inner, step.kind, &step.proposal, list, step.listed, verdicts, step.listed)
-          == BATCHER_DONE);
+    struct lent lent[LENT];
+    uint64_t stamp = 0;
+    size_t count = 0;
+    uint8_t code;
+    CHECK(batcher_validator_lend(&it->inner, &step, &stamp, list, VALIDATORS - 1) == BATCHER_SHORT);
+    while ((code = batcher_validator_lend(&it->inner, &step, &stamp, list, VALIDATORS)) == BATCHER_VERIFY) {
+        CHECK(count < LENT && step.listed != 0 && step.listed <= VALIDATORS);
+        struct lent *one = &lent[count++];
+        one->view = step.proposal.view;
+        one->stamp = stamp;
+        one->kind = step.kind;
+        one->count = step.listed;
+        for (uint64_t i = 0; i < step.listed; i++) one->verdicts[i] = attests(step.kind, &step.proposal, &list[i]);
+    }
+    CHECK(code == BATCHER_DONE || code == BATCHER_IDLE);
+    while (count-- != 0) {
+        const struct lent *one = &lent[count];
+        code = batcher_validator_conclude(&it->inner, one->view, one->kind, one->stamp, one->verdicts, one->count);
+        CHECK(code == BATCHER_DONE || code == BATCHER_IDLE);
+    }
     return 0;
 }
 
@@ -492,6 +514,53 @@ static int lists(struct batcher_validator *validator) {
     return 0;
 }
 
+/* Verdicts count by the stamp of what they are on, one on each. */
+static int stamps(struct batcher_validator *validator) {
+    struct batcher_attestation list[VALIDATORS], before[VALIDATORS];
+    struct batcher_admission admission;
+    struct batcher_step step;
+    struct batcher_vote vote;
+    uint64_t stamp = 7;
+    const uint8_t kind = BATCHER_NULLIFICATION;
+    const bool good[] = {true, true, true, true};
+    memset(&vote, 0, sizeof vote);
+    memset(&step, 0x5a, sizeof step);
+    memset(list, 0x5a, sizeof list);
+    memcpy(before, list, sizeof list);
+    vote.kind = kind;
+    vote.proposal.view = 1;
+    CHECK(batcher_validator_enter(validator, 1, 0) == BATCHER_DONE);
+    for (uint32_t peer = 0; peer < VALIDATORS; peer++) {
+        if (peer == 1) continue;
+        vote.attestation = sign(peer, kind, &vote.proposal);
+        CHECK(batcher_validator_vote(validator, peer, &vote, &admission) == BATCHER_DONE && admission.added);
+    }
+    CHECK(batcher_validator_lend(validator, &step, &stamp, list, VALIDATORS - 1) == BATCHER_SHORT);
+    CHECK(stamp == 7 && step.listed != 3 && memcmp(list, before, sizeof list) == 0);
+    CHECK(batcher_validator_conclude(validator, 1, kind, 0, good, 3) == BATCHER_STALE);
+    CHECK(batcher_validator_lend(validator, &step, &stamp, list, VALIDATORS) == BATCHER_VERIFY);
+    CHECK(stamp == 0 && step.listed == 3 && step.kind == kind && step.proposal.view == 1);
+    for (uint64_t i = 0; i < step.listed; i++) CHECK(attests(kind, &step.proposal, &list[i]));
+    /* It isn't handed out again. */
+    stamp = 7;
+    memcpy(before, list, sizeof list);
+    CHECK(batcher_validator_lend(validator, &step, &stamp, list, VALIDATORS) == BATCHER_IDLE);
+    CHECK(stamp == 7 && memcmp(list, before, sizeof list) == 0);
+    CHECK(batcher_validator_conclude(validator, 1, 3, 0, good, 3) == BATCHER_MALFORMED);
+    CHECK(batcher_validator_conclude(validator, 1, kind, 1, good, 3) == BATCHER_STALE);
+    CHECK(batcher_validator_conclude(validator, 2, kind, 0, good, 3) == BATCHER_STALE);
+    CHECK(batcher_validator_conclude(validator, 1, BATCHER_NOTARIZATION, 0, good, 3) == BATCHER_STALE);
+    CHECK(batcher_validator_conclude(validator, 1, kind, 0, good, 2) == BATCHER_STALE);
+    CHECK(batcher_validator_conclude(validator, 1, kind, 0, good, 4) == BATCHER_STALE);
+    CHECK(batcher_validator_conclude(validator, 1, kind, 0, NULL, 0) == BATCHER_STALE);
+    CHECK(batcher_validator_certified(validator, kind, &vote.proposal) == BATCHER_IDLE);
+    CHECK(batcher_validator_conclude(validator, 1, kind, 0, good, 3) == BATCHER_DONE);
+    CHECK(batcher_validator_certified(validator, kind, &vote.proposal) == BATCHER_DONE);
+    /* By the same once more nothing is made. */
+    CHECK(batcher_validator_conclude(validator, 1, kind, 0, good, 3) == BATCHER_IDLE);
+    return 0;
+}
+
 /* What a caller may do wrong. */
 static int mistakes(void) {
     struct batcher_validator validator = {0};
@@ -504,9 +573,9 @@ static int mistakes(void) {
     struct batcher_task task;
     struct batcher_vote vote;
     static uint8_t room[ROOM];
-    uint64_t count, last;
+    uint64_t count, last, stamp;
     uint32_t lacking[1];
-    bool replaces, verdict = true, verdicts[] = {true, true, true};
+    bool replaces, verdicts[] = {true, true, true};
     const uint32_t signers[] = {0, 2, 3};
     memset(&options, 0, sizeof options);
     memset(&proposal, 0, sizeof proposal);
@@ -521,6 +590,8 @@ static int mistakes(void) {
     CHECK(batcher_validator_wants(&validator, 0, 0, &proposal) == BATCHER_NONE);
     CHECK(batcher_message(NULL, 0, 3, &proposal, room, ROOM, &count) == BATCHER_MALFORMED);
     CHECK(batcher_validator_lacking(&validator, &proposal, lacking, 1, &count) == BATCHER_NONE);
+    CHECK(batcher_validator_lend(&validator, &step, &stamp, list, VALIDATORS) == BATCHER_NONE);
+    CHECK(batcher_validator_conclude(&validator, 1, BATCHER_NOTARIZATION, 0, verdicts, 1) == BATCHER_NONE);
     CHECK(batcher_validator_start(&validator, &options, NULL, 0, NULL, 0, NULL, 0) == BATCHER_MALFORMED);
     options.participants = VALIDATORS;
     options.participant = VALIDATORS;
@@ -574,11 +645,12 @@ static int mistakes(void) {
     proposal.view = 1;
     CHECK(batcher_validator_kept(&validator, 3, &proposal, room, ROOM, &count) == BATCHER_MALFORMED);
     CHECK(batcher_validator_kept(&validator, BATCHER_NULLIFICATION, &proposal, room, ROOM, &count) == BATCHER_IDLE);
-    CHECK(batcher_validator_conclude(&validator, 3, &proposal, list, 0, &verdict, 0) == BATCHER_MALFORMED);
-    CHECK(batcher_validator_conclude(&validator, 0, &proposal, list, 0, &verdict, 1) == BATCHER_MALFORMED);
-    CHECK(batcher_validator_conclude(&validator, 0, &proposal, list, 0, &verdict, 0) == BATCHER_STALE);
-    CHECK(batcher_validator_lend(&validator, 0, 0, &step, list, VALIDATORS - 1) == BATCHER_SHORT);
-    CHECK(batcher_validator_lend(&validator, 0, 0, &step, list, VALIDATORS) == BATCHER_IDLE);
+    /* Nothing is handed out. */
+    CHECK(batcher_validator_conclude(&validator, 1, 3, 0, verdicts, 1) == BATCHER_MALFORMED);
+    CHECK(batcher_validator_conclude(&validator, 1, BATCHER_NOTARIZATION, 0, verdicts, 1) == BATCHER_STALE);
+    CHECK(batcher_validator_conclude(&validator, 1, BATCHER_NOTARIZATION, 0, NULL, 0) == BATCHER_STALE);
+    CHECK(batcher_validator_lend(&validator, &step, &stamp, list, VALIDATORS - 1) == BATCHER_SHORT);
+    CHECK(batcher_validator_lend(&validator, &step, &stamp, list, VALIDATORS) == BATCHER_IDLE);
     /* A certificate that is forged blocks its peer, and a good one from beyond the window is taken in. */
     CHECK(batcher_validator_certificate(&validator, 3, BATCHER_NULLIFICATION, &proposal, room, 9, NULL, 0) == BATCHER_FORGED);
     CHECK(batcher_validator_poll(&validator, &task) == BATCHER_DONE && task.task == BATCHER_TASK_BLOCK);
@@ -627,6 +699,8 @@ static int mistakes(void) {
     options.begins = true;
     CHECK(batcher_validator_start(&validator, &options, (const uint8_t *)"c", 1, NULL, 0, NULL, 0) == BATCHER_DONE);
     int line = lists(&validator);
+    CHECK(batcher_validator_start(&validator, &options, (const uint8_t *)"c", 1, NULL, 0, NULL, 0) == BATCHER_DONE);
+    if (line == 0) line = stamps(&validator);
     batcher_validator_free(&validator);
     return line;
 }

@@ -7,7 +7,9 @@
  *   - each pointer is to a live value of its type that nobody else writes meanwhile, or to as many as
  *     the length after it says; a `bool` is 0 or 1; pointers that are written through don't overlap;
  *   - a verdict is true: of a signature of that participant on that subject, by the keys of the round
- *     or validator.
+ *     or validator;
+ *   - verdicts that are handed to a validator by a stamp are on what that one handed out, and not an
+ *     earlier one: each `batcher_validator_start` counts stamps from 0 anew.
  * All else is tested: on an empty handle, for a code that means nothing, for a length that is too large
  * and for a vote of another round a call answers a code, and changes nothing. The index of a
  * round's leader alone isn't looked at, and nor is whether a view is final. */
@@ -43,7 +45,8 @@ enum batcher_code {
     BATCHER_NONE, /* the handle is empty */
     BATCHER_MALFORMED, /* a code, a length or a number that is out of bounds, or a signer that takes no part */
     BATCHER_ELSEWHERE, /* of another round, or of a view outside of the window */
-    BATCHER_OUT_OF_MEMORY, /* all is as it was, but that an own vote may be written: call again */
+    BATCHER_OUT_OF_MEMORY, /* all is as it was, but that an own vote may be written, and verdicts
+                            * may be taken in: call again */
     BATCHER_LEADER_CHANGED, /* another leader was named before */
     BATCHER_NOT_VERIFIED, /* an own vote that doesn't attest, or whose signer takes no part, or one of the disk */
     BATCHER_DUPLICATE_NOTARIZE, /* a notarize of its signer is kept */
@@ -53,7 +56,7 @@ enum batcher_code {
     BATCHER_FINALIZE_AFTER_NULLIFY, /* its signer has nullified before */
     BATCHER_IDLE, /* nothing is to be done, or there is none */
     BATCHER_VERIFY, /* verdicts are wanted on the attestations of the list */
-    BATCHER_STALE, /* the subject or the list isn't what is asked about first: none of it is taken in */
+    BATCHER_STALE, /* something else is asked about, or by another stamp: none of it is taken in */
     BATCHER_DROPPED, /* of a peer that was blocked before, so it wasn't looked at */
     BATCHER_UNKNOWN, /* of a peer or a leader that takes no part, so it wasn't looked at */
     BATCHER_PASSED, /* the view is before the finalized one */
@@ -124,7 +127,7 @@ enum batcher_task_code {
     BATCHER_TASK_SEND_VOTE, /* send `vote` to all others */
     BATCHER_TASK_SEND_CERTIFICATE, /* send that of `kind` and the round of `proposal` to all others */
     BATCHER_TASK_ENTER, /* enter the view of `proposal` with its leader, and start its timer */
-    BATCHER_TASK_VERIFY, /* have what `batcher_validator_lend` lends verified */
+    BATCHER_TASK_VERIFY, /* have all verified that `batcher_validator_lend` hands out */
     BATCHER_TASK_SIGN, /* sign `kind` and `proposal`, and cast the vote */
     BATCHER_TASK_PROPOSE, /* make the payload of `proposal`, and judge it to be valid */
     BATCHER_TASK_JUDGE, /* judge whether `proposal` is valid */
@@ -247,8 +250,8 @@ struct batcher_validator_options {
 };
 
 /* Does nothing. Its name has the version of this header, so a library of another one doesn't link. */
-void batcher_abi_8(void);
-__attribute__((used)) static void (*const batcher_abi)(void) = batcher_abi_8;
+void batcher_abi_9(void);
+__attribute__((used)) static void (*const batcher_abi)(void) = batcher_abi_9;
 
 /* The library takes its memory by these three, which a program defines: c/heap.c does, over malloc. A block
  * is aligned by 16, and `at` is never null, also where the request is refused. */
@@ -278,7 +281,7 @@ static inline const char *batcher_code_text(uint8_t code) {
     case BATCHER_FINALIZE_AFTER_NULLIFY: return "its signer has nullified before";
     case BATCHER_IDLE: return "nothing is to be done, or there is none";
     case BATCHER_VERIFY: return "verdicts are wanted";
-    case BATCHER_STALE: return "others are asked about first";
+    case BATCHER_STALE: return "something else is asked about";
     case BATCHER_DROPPED: return "its peer is blocked";
     case BATCHER_UNKNOWN: return "its peer or its leader takes no part";
     case BATCHER_PASSED: return "the view is before the finalized one";
@@ -438,18 +441,24 @@ uint8_t batcher_validator_listed(const struct batcher_validator *validator, cons
 uint8_t batcher_validator_wants(const struct batcher_validator *validator, uint64_t peer, uint8_t kind,
                                 const struct batcher_proposal *proposal);
 
-/* VERIFY: verdicts are wanted on the attestations of the list. SHORT: the list has fewer places than there
- * are participants. With view 0 they are of the next construction; IDLE: it wants none, and its view rests.
- * With a view they are of a kind of that one, which may not be the next yet: verify them early, and keep the
- * verdicts. Nothing changes then, and IDLE says that the kind isn't ready. */
-uint8_t batcher_validator_lend(struct batcher_validator *validator, uint64_t view, uint8_t kind,
-                               struct batcher_step *out, struct batcher_attestation *list, size_t list_length);
+/* Hands out attestations that are to be verified, each once. VERIFY: the list has them. `kind` and
+ * `proposal` of `out` say what they are to attest, and `listed` how many they are; `stamp` names
+ * them. Call again until it answers something else: there may be more, since other kinds of the
+ * view, and later views, are handed out early. DONE: verdicts on all that the next construction
+ * looks at were there, and it is made: poll. IDLE: nothing is left to hand out now. Where no kind is
+ * ready, its view rests. SHORT: the list has fewer places than there are participants. Only with
+ * VERIFY `out`, `stamp` and the list change. While verdicts on a part of what waits for a subject
+ * are awaited, no more of it is handed out. */
+uint8_t batcher_validator_lend(struct batcher_validator *validator, struct batcher_step *out, uint64_t *stamp,
+                               struct batcher_attestation *list, size_t list_length);
 
-/* Whether each attestation that was lent attests. The answer may come late. STALE: others are wanted by
- * now, and the task to verify comes again. */
-uint8_t batcher_validator_conclude(struct batcher_validator *validator, uint8_t kind,
-                                   const struct batcher_proposal *proposal,
-                                   const struct batcher_attestation *list, size_t list_length,
+/* Verdicts on what was handed out by a stamp, of a kind of a view: one on each, in its order. They
+ * may come late, and what was handed out first may be answered last. DONE: they are taken in, and a
+ * construction is made by them. IDLE: they are taken in, and nothing is made by them yet. STALE:
+ * nothing is awaited by this stamp there, or there isn't one verdict on each. Nothing changes then.
+ * OUT_OF_MEMORY: they are taken in, and the construction isn't made: make the same call again. The
+ * stamp is good for that until something else of the kind and view is handed out. */
+uint8_t batcher_validator_conclude(struct batcher_validator *validator, uint64_t view, uint8_t kind, uint64_t stamp,
                                    const bool *verdicts, size_t verdicts_length);
 
 /* The bytes to sign for a subject in a namespace, and to verify a signature on it: no other subject has the same
@@ -470,7 +479,8 @@ uint8_t batcher_validator_cast(struct batcher_validator *validator, const struct
 /* The leader can't be changed. UNKNOWN: it takes no part, and nothing changes. Where it is another participant, and is
  * blocked or absent, the view is given up, as by `batcher_validator_expire`, and nothing is sent again. It is absent
  * where no vote and no certificate of the window came of it since twice as many views were entered as there are
- * participants. */
+ * participants. What was handed out to be verified of views in which nothing is due is dropped:
+ * verdicts on it are STALE then. */
 uint8_t batcher_validator_enter(struct batcher_validator *validator, uint64_t view, uint32_t leader);
 
 /* Whether a proposal is valid. One of its own is. Of one that isn't, the view is given up. */

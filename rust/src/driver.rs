@@ -143,7 +143,7 @@
 //! | Of verification | Here |
 //! |---|---|
 //! | drop what is to be verified, or some of it | there is no task for it |
-//! | give verdicts twice, flipped, late, of another validator, or of a view that is over, until memory is full | there is no call for it: the driver asks once, and hands in once |
+//! | give verdicts twice, flipped, late, of another validator, or of a view that is over | there is no call for it: the driver asks once, and hands in once |
 //! | give too few or too many, also on a certificate | [`DriveError::Verdicts`]; can't be where [`Verifier::attests`] alone is written |
 //! | find all bad, or all good | a duty: a verifier tells the truth |
 //! | verify a certificate as something else than its attestations | the driver takes it apart |

@@ -186,7 +186,7 @@ pub(crate) struct Round {
 // No function here unwinds: Rattle has no panics. A slice is a pointer and its length.
 unsafe extern "C" {
     /// Its name has the version of the header, so a library of another one doesn't link.
-    safe fn batcher_abi_8();
+    safe fn batcher_abi_9();
 
     fn batcher_round_new(round: *mut RoundHandle, options: *const RoundOptions) -> u8;
     fn batcher_round_free(round: *mut RoundHandle);
@@ -313,7 +313,7 @@ impl Round {
             at: ptr::null_mut(),
         };
         let mut round = Round { handle };
-        batcher_abi_8();
+        batcher_abi_9();
         // SAFETY: as above; an empty handle is a null pointer.
         match unsafe { batcher_round_new(&mut round.handle, options) } {
             code::DONE => Ok(round),

@@ -68,12 +68,11 @@ use crate::construct::{ONE_EACH, attestations_of, reserve, reserve_each};
 use crate::errors::{OutOfMemory, SignError, VoteError, unknown};
 use crate::ffi::{self, code, validators};
 use crate::flat::{
-    block_of, flat_attestation, flat_proposal, flat_round, flat_subject, flat_vote, kind_code,
-    kind_of, own_fault, proposal_of, report_of, round_of, subject_of, vote_of,
+    block_of, flat_proposal, flat_round, flat_subject, flat_vote, kind_code, kind_of, own_fault,
+    proposal_of, report_of, round_of, subject_of, vote_of,
 };
 use crate::messages::{Attestation, Certificate, Kind, Proposal, Sha256Digest, Subject, Vote};
 use crate::positions::{Epoch, Participant, Round, View, quorum};
-use std::collections::VecDeque;
 use std::fmt;
 use std::marker::PhantomData;
 use std::sync::atomic::{AtomicBool, AtomicU64, Ordering};
@@ -462,6 +461,16 @@ pub struct Wanted<G> {
     subject: Subject,
     message: Vec<u8>,
     attestations: Vec<Attestation<G>>,
+    /// None where they aren't of a construction.
+    stamp: Option<Stamp>,
+}
+
+/// By this the library knows again what it has handed out. Each validator counts from 0 on, so a
+/// number is of one life.
+#[derive(Clone, Copy, Debug)]
+struct Stamp {
+    life: Life,
+    number: u64,
 }
 
 impl<G> Wanted<G> {
@@ -565,23 +574,18 @@ pub struct Validator<G> {
     participants: u32,
     // How many bytes are signed at most.
     most_bytes: u64,
-    // The library's last task, and whether it isn't handed out yet.
+    // The library's last task, and whether it isn't handed out yet, or there may be more of it.
     task: validators::Task,
     waits: bool,
     // Where the library lists attestations.
     list: Vec<ffi::Attestation>,
+    // What is listed there and isn't handed out yet, since memory was refused for it, and the number
+    // of its stamp.
+    lent: Option<(ffi::Step, u64)>,
     // Where the library answers to a vote.
     answer: ffi::Admission,
-    // Verdicts that came early, or late. They are handed in with those on the other attestations of
-    // their construction.
-    found: Vec<Found>,
-    // What is to be handed out to be verified, and whose attestations were and have no verdict yet.
-    queue: VecDeque<Wanted<G>>,
-    asked: Vec<(Subject, Vec<u32>)>,
     // The last view that was entered.
     entered: View,
-    // No vote of a peer was taken in of a view above this one.
-    heard: View,
     // How many writes were given, and how many of them last.
     writes: u64,
     written: u64,
@@ -635,14 +639,18 @@ impl<G: Clone + AsRef<[u8]> + for<'b> TryFrom<&'b [u8]>> Validator<G> {
         Validator::of(options, leader, false, disk, &verdicts)
     }
 
-    /// An attestation of its own, to be verified.
-    fn own(&self, subject: Subject, flat: &ffi::Attestation) -> Result<Wanted<G>, VoteError> {
-        let attestations = attestations_of(std::slice::from_ref(flat))?;
-        let message = self.message(&subject)?;
+    /// What is listed, to be verified.
+    fn wanted(
+        &self,
+        subject: Subject,
+        list: &[ffi::Attestation],
+        stamp: Option<Stamp>,
+    ) -> Result<Wanted<G>, VoteError> {
         Ok(Wanted {
+            attestations: attestations_of(list)?,
+            message: self.message(&subject)?,
             subject,
-            message,
-            attestations,
+            stamp,
         })
     }
 
@@ -675,12 +683,9 @@ impl<G: Clone + AsRef<[u8]> + for<'b> TryFrom<&'b [u8]>> Validator<G> {
             task: validators::Task::default(),
             waits: false,
             list,
+            lent: None,
             answer: ffi::Admission::default(),
-            found: Vec::new(),
-            queue: VecDeque::new(),
-            asked: Vec::new(),
             entered: View::zero(),
-            heard: View::zero(),
             writes: 0,
             written: 0,
             held: None,
@@ -702,9 +707,6 @@ impl<G: Clone + AsRef<[u8]> + for<'b> TryFrom<&'b [u8]>> Validator<G> {
             return Ok(Some(Task::Final(proposal)));
         }
         loop {
-            if let Some(wanted) = self.queue.pop_front() {
-                return Ok(Some(Task::Verify(wanted)));
-            }
             if !self.waits {
                 match self.library.poll(&mut self.task) {
                     code::DONE => self.waits = true,
@@ -720,9 +722,9 @@ impl<G: Clone + AsRef<[u8]> + for<'b> TryFrom<&'b [u8]>> Validator<G> {
                 return Ok(self.give()?.map(Task::Write));
             }
             let task = self.handed_out()?;
-            self.waits = false;
-            if let Some(task) = task {
-                return Ok(Some(task));
+            self.waits = matches!(task, Some(Task::Verify(_)));
+            if task.is_some() {
+                return Ok(task);
             }
         }
     }
@@ -754,10 +756,6 @@ impl<G: Clone + AsRef<[u8]> + for<'b> TryFrom<&'b [u8]>> Validator<G> {
             }
             code::TASK_FINAL => {
                 let proposal = proposal_of(&flat.proposal);
-                self.found
-                    .retain(|found| found.subject.round().view > proposal.round.view);
-                self.asked
-                    .retain(|asked| asked.0.round().view > proposal.round.view);
                 // The write that comes next has what makes it final.
                 if self.is_unwritten(kind_code(Kind::Finalization)) {
                     self.held = Some((proposal, self.writes));
@@ -790,10 +788,7 @@ impl<G: Clone + AsRef<[u8]> + for<'b> TryFrom<&'b [u8]>> Validator<G> {
                     }
                 }
             }
-            code::TASK_VERIFY => {
-                self.lend()?;
-                return Ok(None);
-            }
+            code::TASK_VERIFY => return Ok(self.lend()?.map(Task::Verify)),
             code::TASK_SIGN => Task::Sign(subject_of(kind_of(flat.kind), &flat.proposal)),
             code::TASK_PROPOSE => Task::Propose {
                 view: View::new(flat.proposal.view),
@@ -869,120 +864,26 @@ impl<G: Clone + AsRef<[u8]> + for<'b> TryFrom<&'b [u8]>> Validator<G> {
         }
     }
 
-    /// Queues what is to be verified: for the next construction, and early for the other kinds of its
-    /// view and of later ones. Where all of the next one was verified before, that is made.
-    fn lend(&mut self) -> Result<(), PollError> {
-        let Some(step) = self.listed(0, Kind::Notarization)? else {
-            return Ok(());
-        };
-        if let Some(verdicts) = self.verdicts(&step)? {
-            return self.conclude_listed(&step, &verdicts);
-        }
-        self.ask(&step)?;
-        let first = step.proposal.view;
-        // Of a later view nothing waits.
-        let last = self.entered.get().saturating_add(1).min(self.heard.get());
-        for view in (first..=last.max(first)).take(1 + EARLY) {
-            for kind in [Kind::Notarization, Kind::Nullification, Kind::Finalization] {
-                if (view, kind_code(kind)) == (first, step.kind) {
-                    continue;
-                }
-                if let Some(step) = self.listed(view, kind)? {
-                    self.ask(&step)?;
+    /// What is to be verified next. None where nothing is left, or where the library has verdicts
+    /// on all that the next construction looks at, and has made it.
+    fn lend(&mut self) -> Result<Option<Wanted<G>>, PollError> {
+        let (step, number) = match self.lent {
+            Some(lent) => lent,
+            None => {
+                let (mut step, mut number) = (ffi::Step::default(), 0);
+                match self.library.lend(&mut step, &mut number, &mut self.list) {
+                    code::VERIFY => *self.lent.insert((step, number)),
+                    code::DONE | code::IDLE => return Ok(None),
+                    code::OUT_OF_MEMORY => return Err(PollError::OutOfMemory),
+                    other => unknown(other),
                 }
             }
-        }
-        Ok(())
-    }
-
-    /// Has the library list what a construction of this view and kind looks at, or the next
-    /// construction, which view 0 is.
-    fn listed(&mut self, view: u64, kind: Kind) -> Result<Option<ffi::Step>, PollError> {
-        let mut step = ffi::Step::default();
-        let kind = kind_code(kind);
-        match self.library.lend(view, kind, &mut step, &mut self.list) {
-            code::VERIFY => Ok(Some(step)),
-            code::IDLE => Ok(None),
-            code::OUT_OF_MEMORY => Err(PollError::OutOfMemory),
-            other => unknown(other),
-        }
-    }
-
-    /// The verdicts on what is listed, where there is one on each.
-    fn verdicts(&self, step: &ffi::Step) -> Result<Option<Vec<bool>>, PollError> {
-        let subject = subject_of(kind_of(step.kind), &step.proposal);
-        let all = &self.list[..step.listed as usize];
-        // There may be none, where its own vote is a quorum.
-        if self.found.is_empty() && !all.is_empty() {
-            return Ok(None);
-        }
-        let mut verdicts = Vec::new();
-        reserve(&mut verdicts, all.len())?;
-        let each = all.iter().enumerate();
-        verdicts.extend(each.map_while(|(place, it)| self.verdict(&subject, place, it)));
-        Ok((verdicts.len() == all.len()).then_some(verdicts))
-    }
-
-    /// The verdict on the attestation at this place of a list, if there is one.
-    fn verdict(&self, subject: &Subject, place: usize, it: &ffi::Attestation) -> Option<bool> {
-        let mut of_subject = self.found.iter().filter(|found| found.subject == *subject);
-        of_subject.find_map(|found| {
-            // They keep their order, so it mostly has the same place.
-            let place = match found.list.get(place) {
-                Some(same) if same == it => place,
-                _ => found.list.iter().position(|other| other == it)?,
-            };
-            Some(found.verdicts[place])
-        })
-    }
-
-    fn conclude_listed(&mut self, step: &ffi::Step, verdicts: &[bool]) -> Result<(), PollError> {
-        let all = &self.list[..step.listed as usize];
-        match self
-            .library
-            .conclude(step.kind, &step.proposal, all, verdicts)
-        {
-            code::DONE => {}
-            code::OUT_OF_MEMORY => return Err(PollError::OutOfMemory),
-            other => unknown(other),
-        }
-        let subject = subject_of(kind_of(step.kind), &step.proposal);
-        self.found.retain(|found| found.subject != subject);
-        Ok(())
-    }
-
-    /// Queues what is listed, but for what has a verdict, or was handed out and has none yet.
-    fn ask(&mut self, step: &ffi::Step) -> Result<(), PollError> {
-        let subject = subject_of(kind_of(step.kind), &step.proposal);
-        let all = &self.list[..step.listed as usize];
-        if self.found.is_empty() && self.asked.is_empty() {
-            let asked = Asked::of(subject, self.message(&subject)?, all)?;
-            return self.hand_out(asked);
-        }
-        let was_asked = |it: &ffi::Attestation| {
-            let mut of_subject = self.asked.iter().filter(|asked| asked.0 == subject);
-            of_subject.any(|asked| asked.1.contains(&it.signer))
         };
-        let mut left = Vec::new();
-        reserve(&mut left, all.len())?;
-        for (place, it) in all.iter().enumerate() {
-            if self.verdict(&subject, place, it).is_none() && !was_asked(it) {
-                left.push(*it);
-            }
-        }
-        if left.is_empty() {
-            return Ok(());
-        }
-        let asked = Asked::of(subject, self.message(&subject)?, &left)?;
-        self.hand_out(asked)
-    }
-
-    fn hand_out(&mut self, asked: Asked<G>) -> Result<(), PollError> {
-        reserve(&mut self.asked, 1)?;
-        self.queue.try_reserve(1).map_err(|_| OutOfMemory)?;
-        self.asked.push((asked.wanted.subject, asked.signers));
-        self.queue.push_back(asked.wanted);
-        Ok(())
+        let subject = subject_of(kind_of(step.kind), &step.proposal);
+        let (life, list) = (self.life, &self.list[..step.listed as usize]);
+        let wanted = self.wanted(subject, list, Some(Stamp { life, number }))?;
+        self.lent = None;
+        Ok(Some(wanted))
     }
 
     /// This is written, so that a crash leaves it, and so is no more: what came since it was given is
@@ -1026,14 +927,11 @@ impl<G: Clone + AsRef<[u8]> + for<'b> TryFrom<&'b [u8]>> Validator<G> {
             .library
             .vote(u64::from(sender.get()), &flat, &mut self.answer)
         {
-            code::DONE => {
-                self.heard = self.heard.max(vote.round().view);
-                Ok(Receipt::Answered(Admission {
-                    added: self.answer.added,
-                    block: block_of(self.answer.block),
-                    report: report_of(&self.answer, vote)?,
-                }))
-            }
+            code::DONE => Ok(Receipt::Answered(Admission {
+                added: self.answer.added,
+                block: block_of(self.answer.block),
+                report: report_of(&self.answer, vote)?,
+            })),
             code::ELSEWHERE => Ok(Receipt::Outside),
             code::DROPPED => Ok(Receipt::Dropped),
             code::UNKNOWN => Ok(Receipt::Unknown),
@@ -1095,17 +993,11 @@ impl<G: Clone + AsRef<[u8]> + for<'b> TryFrom<&'b [u8]>> Validator<G> {
         subject: Subject,
         list: &[ffi::Attestation],
     ) -> Result<Option<Wanted<G>>, OutOfMemory> {
-        let attestations = match attestations_of(list) {
-            Ok(it) => it,
-            Err(VoteError::SignatureBytes) => return Ok(None),
-            Err(VoteError::OutOfMemory) => return Err(OutOfMemory),
-        };
-        let message = self.message(&subject)?;
-        Ok(Some(Wanted {
-            subject,
-            message,
-            attestations,
-        }))
+        match self.wanted(subject, list, None) {
+            Ok(wanted) => Ok(Some(wanted)),
+            Err(VoteError::SignatureBytes) => Ok(None),
+            Err(VoteError::OutOfMemory) => Err(OutOfMemory),
+        }
     }
 
     /// Takes in a certificate that this participant sent. `verify` finds out which of the
@@ -1161,49 +1053,36 @@ impl<G: Clone + AsRef<[u8]> + for<'b> TryFrom<&'b [u8]>> Validator<G> {
         }
     }
 
-    /// Which of the attestations attest, one verdict for each. Then poll. Lists may be answered in any
-    /// order. False where no construction is made by these alone, as where a vote came meanwhile, or
-    /// where another is made first: then they are kept. None is asked about twice, unless memory is
-    /// refused for that.
+    /// Which of the attestations attest, one verdict for each. Then poll. They may come late, and
+    /// lists may be answered in any order. True where a construction is made by them.
+    ///
+    /// Else they are kept, as where another one is made first, or where a vote came meanwhile. They
+    /// count for nothing where another validator handed this out, as before a start by the same
+    /// disk, or where nothing is awaited on it any more.
     ///
     /// # Errors
     ///
-    /// `OutOfMemory`, after which the same call can be made again. `SignatureBytes`, where a
-    /// signature has more than 96 bytes.
+    /// `OutOfMemory`, after which the same call can be made again.
     ///
     /// # Panics
     ///
     /// Where there isn't one verdict for each.
     pub fn conclude(&mut self, wanted: &Wanted<G>, verdicts: &[bool]) -> Result<bool, VoteError> {
         assert_eq!(wanted.attestations.len(), verdicts.len(), "{ONE_EACH}");
-        let mut list = Vec::new();
-        reserve(&mut list, verdicts.len())?;
-        for attestation in &wanted.attestations {
-            list.push(flat_attestation(attestation)?);
-        }
-        let signers = || list.iter().map(|it| it.signer);
-        self.asked
-            .retain(|asked| asked.0 != wanted.subject || !signers().eq(asked.1.iter().copied()));
-        let (kind, subject) = (kind_code(wanted.subject.kind()), &wanted.subject);
+        let number = match wanted.stamp {
+            Some(stamp) if stamp.life == self.life => stamp.number,
+            _ => return Ok(false),
+        };
+        let (view, kind) = (wanted.subject.round().view, wanted.subject.kind());
         match self
             .library
-            .conclude(kind, &flat_subject(subject), &list, verdicts)
+            .conclude(view.get(), kind_code(kind), number, verdicts)
         {
-            code::DONE => return Ok(true),
-            code::STALE => {}
-            code::OUT_OF_MEMORY => return Err(VoteError::OutOfMemory),
+            code::DONE => Ok(true),
+            code::IDLE | code::STALE => Ok(false),
+            code::OUT_OF_MEMORY => Err(VoteError::OutOfMemory),
             other => unknown(other),
         }
-        let mut kept = Vec::new();
-        if reserve(&mut kept, verdicts.len()).is_ok() && reserve(&mut self.found, 1).is_ok() {
-            kept.extend_from_slice(verdicts);
-            self.found.push(Found {
-                subject: *subject,
-                list,
-                verdicts: kept,
-            });
-        }
-        Ok(false)
     }
 
     /// The signature of what was given to be signed. `verify` finds out whether it attests, one
@@ -1252,7 +1131,8 @@ impl<G: Clone + AsRef<[u8]> + for<'b> TryFrom<&'b [u8]>> Validator<G> {
     /// An own vote as the library takes it, and its attestation as it is made of these bytes.
     fn to_cast(&self, vote: &Vote<G>) -> Result<(ffi::Vote, Wanted<G>), VoteError> {
         let flat = flat_vote(vote)?;
-        let wanted = self.own(vote.subject(), &flat.attestation)?;
+        let list = std::slice::from_ref(&flat.attestation);
+        let wanted = self.wanted(vote.subject(), list, None)?;
         Ok((flat, wanted))
     }
 
@@ -1472,41 +1352,6 @@ fn boxed(leader: impl Fn(View) -> Participant + 'static) -> Result<Box<dyn Leads
     }
 }
 
-/// Of how many views after the next construction's attestations are handed out early.
-const EARLY: usize = 4;
-
-/// Verdicts that came before their construction was the next, or once more votes were there.
-struct Found {
-    subject: Subject,
-    list: Vec<ffi::Attestation>,
-    verdicts: Vec<bool>,
-}
-
-/// What is to be handed out, and whose attestations it has.
-struct Asked<G> {
-    wanted: Wanted<G>,
-    signers: Vec<u32>,
-}
-
-impl<G: for<'b> TryFrom<&'b [u8]>> Asked<G> {
-    fn of(
-        subject: Subject,
-        message: Vec<u8>,
-        list: &[ffi::Attestation],
-    ) -> Result<Self, VoteError> {
-        let attestations = attestations_of(list)?;
-        let mut signers = Vec::new();
-        reserve(&mut signers, list.len())?;
-        signers.extend(list.iter().map(|it| it.signer));
-        let wanted = Wanted {
-            subject,
-            message,
-            attestations,
-        };
-        Ok(Asked { wanted, signers })
-    }
-}
-
 fn counts_of(flat: &validators::Counts) -> Counts {
     Counts {
         pending: flat.pending,
@@ -1628,6 +1473,7 @@ fn wanted_on<G: for<'b> TryFrom<&'b [u8]>>(
         subject,
         message,
         attestations,
+        stamp: None,
     })
 }
 

@@ -281,8 +281,7 @@ impl One {
         }
     }
 
-    /// Does all that is to be done. What is to be verified isn't noted, since it is asked about twice
-    /// where memory is refused.
+    /// Does all that is to be done.
     fn go_on(&mut self, granted: &mut Option<u32>) {
         let running = &mut self.running;
         loop {
@@ -294,8 +293,10 @@ impl One {
                 None => return,
                 Some(Task::Write(write)) => once(granted, || running.wrote(write)).unwrap(),
                 Some(Task::Verify(wanted)) => {
+                    let (subject, all) = (wanted.subject(), wanted.attestations());
                     let verdicts = verdicts(&wanted);
-                    again(granted, || running.conclude(&wanted, &verdicts)).unwrap();
+                    let made = again(granted, || running.conclude(&wanted, &verdicts));
+                    self.answers.push(format!("{subject:?} {all:?} {made:?}"));
                 }
                 Some(Task::Sign(subject)) => {
                     let verify = |wanted: &_| uncounted(|| verdicts(wanted));

@@ -483,6 +483,11 @@ fn views_are_verified_at_once() {
     }
 }
 
+fn signers_of(wanted: &Wanted<Signature>) -> Vec<u32> {
+    let all = wanted.attestations().iter();
+    all.map(|it| it.signer.get()).collect()
+}
+
 #[test]
 fn late_verdicts_are_kept() {
     let mut running = of_seven();
@@ -493,18 +498,16 @@ fn late_verdicts_are_kept() {
     let five = asked(&mut running);
     assert_eq!(five.attestations().len(), 5);
     hear(&mut running, nullify_of(1), 6);
-    // The sixth wasn't asked about, so no construction is made by the five alone.
+    // The sixth isn't asked about while the five are awaited, ..
+    assert!(running.poll().unwrap().is_none());
+    // .. so no construction is made by the five alone.
     assert_eq!(running.conclude(&five, &[true; 5]), Ok(false));
     let one = asked(&mut running);
-    let signers: Vec<u32> = one
-        .attestations()
-        .iter()
-        .map(|it| it.signer.get())
-        .collect();
-    assert_eq!(signers, [6]);
-    assert_eq!(running.conclude(&one, &[false]), Ok(false));
+    assert_eq!(signers_of(&one), [6]);
+    assert!(running.poll().unwrap().is_none());
     assert!(!running.has_certificate(Kind::Nullification, round));
     // All six are made by what was found. The sixth is blocked for its signature.
+    assert_eq!(running.conclude(&one, &[false]), Ok(true));
     let blocked = (Participant::new(6), Cause::Signature);
     let task = running.poll().unwrap();
     assert!(matches!(task, Some(Task::Block(it, cause)) if (it, cause) == blocked));
@@ -531,6 +534,15 @@ fn tasks(running: &mut Validator<Signature>) -> Vec<Task<Signature>> {
     tasks
 }
 
+/// All that is to be verified by now.
+fn all_asked(running: &mut Validator<Signature>) -> Vec<Wanted<Signature>> {
+    let wanted = tasks(running).into_iter().filter_map(|task| match task {
+        Task::Verify(wanted) => Some(wanted),
+        _ => None,
+    });
+    wanted.collect()
+}
+
 #[test]
 fn kinds_are_verified_at_once() {
     let mut running = of_seven();
@@ -543,13 +555,7 @@ fn kinds_are_verified_at_once() {
         hear_vote(&mut running, notarize, signer);
         hear_vote(&mut running, finalize, signer);
     }
-    let wanted = tasks(&mut running)
-        .into_iter()
-        .filter_map(|task| match task {
-            Task::Verify(wanted) => Some(wanted),
-            _ => None,
-        });
-    let wanted: Vec<_> = wanted.collect();
+    let wanted = all_asked(&mut running);
     let [first, second] = &wanted[..] else {
         panic!("{wanted:?}");
     };
@@ -562,6 +568,90 @@ fn kinds_are_verified_at_once() {
     assert!(tasks(&mut running).iter().any(is_final));
     assert_eq!(running.certified(View::new(1)), Some(proposal));
     assert_eq!(running.certified(View::new(2)), None);
+}
+
+/// Votes come while verdicts on others of their kind are awaited. These come in another order than
+/// they are needed in.
+#[test]
+fn late_verdicts_of_kinds_are_used() {
+    let mut running = of_seven();
+    let proposal = first_proposal();
+    let subjects = [
+        Subject::Notarize { proposal },
+        Subject::Finalize { proposal },
+    ];
+    for subject in subjects {
+        for signer in 1..6 {
+            hear_vote(&mut running, subject, signer);
+        }
+    }
+    let fives = all_asked(&mut running);
+    assert_eq!(
+        fives.iter().map(|it| *it.subject()).collect::<Vec<_>>(),
+        subjects
+    );
+    for subject in subjects {
+        hear_vote(&mut running, subject, 6);
+    }
+    assert!(all_asked(&mut running).is_empty());
+    // By each that is answered what came of its kind meanwhile is asked about, and nothing else.
+    let mut sixth = Vec::new();
+    for five in fives.iter().rev() {
+        assert_eq!(signers_of(five), [1, 2, 3, 4, 5]);
+        assert_eq!(running.conclude(five, &[true; 5]), Ok(false));
+        let more = all_asked(&mut running);
+        let [one] = &more[..] else {
+            panic!("{more:?}");
+        };
+        assert_eq!((one.subject(), signers_of(one)), (five.subject(), vec![6]));
+        sixth.extend(more);
+    }
+    // The finalizes are answered first, and made once the notarization is.
+    assert_eq!(running.conclude(&sixth[0], &[true]), Ok(false));
+    assert!(tasks(&mut running).is_empty());
+    assert_eq!(running.conclude(&sixth[1], &[true]), Ok(true));
+    let is_final = |task: &Task<_>| matches!(task, Task::Final(it) if *it == proposal);
+    assert!(tasks(&mut running).iter().any(is_final));
+    // They are over by now.
+    for wanted in &sixth {
+        assert_eq!(running.conclude(wanted, &[true]), Ok(false));
+    }
+}
+
+/// What two validators of one disk hand out first has the same stamp, so it counts in its own life
+/// alone.
+#[test]
+fn verdicts_are_of_one_life() {
+    let mut station = begun(0);
+    let hear = |station: &mut Station| {
+        for signer in 1..VALIDATORS {
+            hear_vote(&mut station.running, nullify_of(1), signer);
+        }
+        asked(&mut station.running)
+    };
+    let earlier = hear(&mut station);
+    station.restart();
+    station.view = View::zero();
+    station.go_on(10);
+    assert_eq!(station.view, View::new(1));
+    let (round, all) = (nullify_of(1).round(), [true; 3]);
+    let running = &mut station.running;
+    // Also where nothing is handed out yet.
+    assert_eq!(running.conclude(&earlier, &all), Ok(false));
+    let later = hear(&mut station);
+    let running = &mut station.running;
+    assert_eq!(later.subject(), earlier.subject());
+    assert_eq!(later.attestations(), earlier.attestations());
+    assert_eq!(running.conclude(&earlier, &all), Ok(false));
+    // Nor do verdicts count that aren't on what is handed out.
+    let certificate = nullification(1, &[1, 2, 3]);
+    let listed = running.attestations(&certificate).unwrap().unwrap();
+    assert_eq!(listed.attestations(), later.attestations());
+    assert_eq!(running.conclude(&listed, &all), Ok(false));
+    assert!(running.poll().unwrap().is_none());
+    assert!(!running.has_certificate(Kind::Nullification, round));
+    assert_eq!(running.conclude(&later, &all), Ok(true));
+    assert!(running.has_certificate(Kind::Nullification, round));
 }
 
 #[test]
@@ -605,12 +695,9 @@ fn a_payload_is_forwarded_to_who_may_lack_it() {
             continue;
         }
         hear_vote(&mut running, notarize, 5);
-        let wanted = tasks(&mut running).into_iter().find_map(|task| match task {
-            Task::Verify(wanted) => Some(wanted),
-            _ => None,
-        });
-        let verdicts = vec![true; wanted.as_ref().unwrap().attestations().len()];
-        running.conclude(&wanted.unwrap(), &verdicts).unwrap();
+        let wanted = all_asked(&mut running).remove(0);
+        let verdicts = vec![true; wanted.attestations().len()];
+        running.conclude(&wanted, &verdicts).unwrap();
         let more = tasks(&mut running);
         let sends = |task: &Task<_>| matches!(task, Task::SendCertificate(_));
         assert!(more.iter().any(sends));

@@ -7,3 +7,4 @@ mod Unmade
 mod Puts
 mod Listings
 mod Holding
+mod Judged

@@ -1,8 +1,8 @@
 -- What a caller has verified, by what the scheme of its round means.
-use Rattle.batcher_ffi.proofs.Words.{AreIn, Attestation, Batchable, Bool, CRound, CValidator, FlatAttestation, List, OneByOne, SHORT, SameAny}
+use Rattle.batcher_ffi.proofs.Words.{AreIn, Attestation, Batchable, Bool, CRound, FlatAttestation, List, OneByOne, SHORT, SameAny}
 use Rattle.batcher_ffi.proofs.Words.{Sha256Digest, Signature, Subject, [], ℕ, ◌&&◌, ◌↔◌, ◌∙◌, ◌∷◌, ◌≡◌, ◌≢◌, and_parts, ap, arith, attestation_in}
 use Rattle.batcher_ffi.proofs.Words.{common_steps, config_of_handle, false, is_attested, is_none, is_short, keys_in, length, length-map, list_all}
-use Rattle.batcher_ffi.proofs.Words.{list_any, map, nat_lt, refl, sym, true, true≢false, validator_config, validator_keys, validator_participants}
+use Rattle.batcher_ffi.proofs.Words.{list_any, map, nat_lt, refl, sym, true, true≢false}
 use Rattle.std.specs.Prelude.{◌==◌, Some}
 
 pub attests_if : (r : CRound) (subject : Subject Sha256Digest) (a : Attestation Signature)
@@ -36,22 +36,6 @@ pub all_attest : (r : CRound) (subject : Subject Sha256Digest)
 all_attest r subject all h =
     each_attests (length (config_of_handle r).meaning.participants) (is_attested (keys_in r) subject)
     ((config_of_handle r).meaning.attests subject) (attests_if r subject) all h
-
--- The same of a validator.
-pub validator_attests_if : (l : CValidator) (subject : Subject Sha256Digest)
-    (a : Attestation Signature)
-    → (validator_config l).meaning.attests subject a
-    ≡ (nat_lt a.signer.0 (validator_participants l) && is_attested (validator_keys l) subject a)
-validator_attests_if l subject a = refl
-
-pub validator_all_attest : (l : CValidator) (subject : Subject Sha256Digest)
-    (all : List (Attestation Signature))
-    → list_all (λ a. nat_lt a.signer.0 (validator_participants l)) all ≡ true
-    → map (is_attested (validator_keys l) subject) all
-    ≡ map ((validator_config l).meaning.attests subject) all
-validator_all_attest l subject all h =
-    each_attests (validator_participants l) (is_attested (validator_keys l) subject)
-    ((validator_config l).meaning.attests subject) (validator_attests_if l subject) all h
 
 -- A call that changes nothing changes nothing of the round.
 pub same_self : (r : CRound) → SameAny r r

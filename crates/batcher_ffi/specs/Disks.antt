@@ -16,6 +16,7 @@ use Rattle.batcher_bytes.specs.declared.signature.Keys.{Keys}
 use Rattle.batcher_bytes.specs.declared.signature.Signature.{Signature}
 use Rattle.batcher_ffi.specs.Certificates.{certifies_by, listing_in}
 use Rattle.batcher_ffi.specs.Flat.{raw_vote_in}
+use Rattle.batcher_ffi.specs.Judging.{JudgedValidatorView}
 use Rattle.batcher_ffi.specs.Validators.{CValidator, IsMade, WhyNotMade, earlier_in, kept_in}
 use Rattle.batcher_ffi.specs.Validators.{validator_keys, validator_participants}
 use Rattle.batcher_ffi.specs.Rounds.{is_one_of}
@@ -91,10 +92,10 @@ module _ (options : ValidatorOptions) (namespace disk : List ℕ) where
 
   -- What a call that makes a validator does to a handle: where it fails, the handle stays as it
   -- was.
-  pub record MakesValidator (old new : Option CValidator) (code : ℕ) (verdicts : List Bool)
-      : Type 0 where
-    pub done : code ≡ DONE → IsSomeAnd new (IsMade options namespace disk)
-    pub verified : code ≡ DONE → IsSomeAnd new HoldsVerified
+  pub record MakesValidator (old new : Option JudgedValidatorView) (code : ℕ)
+      (verdicts : List Bool) : Type 0 where
+    pub done : code ≡ DONE → IsSomeAnd new (λ j. IsMade options namespace disk j.validator)
+    pub verified : code ≡ DONE → IsSomeAnd new (λ j. HoldsVerified j.validator)
     pub refused : code ≢ DONE → WhyNoneIsMade verdicts code
     pub stays : code ≢ DONE → new ≡ old
 

@@ -2,6 +2,8 @@
 use Rattle.std.specs.Prelude.{◌≡◌, ◌≢◌, ℕ, Option, Some, None}
 use Rattle.batcher_ffi.specs.declared.codes.TheConstants.{NONE}
 use Rattle.batcher_ffi.specs.Files.{CFiles}
+use Rattle.batcher_node.specs.Nodes.{SameNode}
+use Rattle.batcher_ffi.specs.Judging.{DropsRested, JudgedValidatorView}
 use Rattle.batcher_ffi.specs.Validators.{CValidator}
 use Rattle.batcher_ffi.specs.Rounds.{CRound}
 
@@ -17,10 +19,27 @@ abbrev pub OnRound : Option CRound → Option CRound → ℕ → Type 0 → (CRo
     → Type 0
 OnRound = OnHandle
 
--- of a validator
-abbrev pub OnValidator : Option CValidator → Option CValidator → ℕ → Type 0
+-- of a validator, with what was handed out of it to be verified; its keys and its epoch stay
+abbrev pub OnJudged : Option JudgedValidatorView → Option JudgedValidatorView → ℕ → Type 0
+    → (JudgedValidatorView → JudgedValidatorView → Type 0) → Type 0
+OnJudged old new code stays holds =
+    OnHandle old new code stays (λ before after.
+    SameNode before.validator.voter.node after.validator.voter.node × holds before after)
+
+-- of a validator alone: what was handed out stays
+abbrev pub OnValidator : Option JudgedValidatorView → Option JudgedValidatorView → ℕ → Type 0
     → (CValidator → CValidator → Type 0) → Type 0
-OnValidator = OnHandle
+OnValidator old new code stays holds =
+    OnJudged old new code stays (λ before after.
+    (after.requests ≡ before.requests) × holds before.validator after.validator)
+
+-- of a view that it enters: what was handed out of views in which nothing is due is dropped
+abbrev pub OnEntering : Option JudgedValidatorView → Option JudgedValidatorView → ℕ
+    → (CValidator → CValidator → Type 0) → Type 0
+OnEntering old new code holds =
+    OnJudged old new code (Unit {0}) (λ before after.
+    DropsRested before.requests after.requests after.validator
+    × holds before.validator after.validator)
 
 -- of files
 abbrev pub OnFiles : Option CFiles → Option CFiles → ℕ → Type 0 → (CFiles → CFiles → Type 0)

@@ -3,7 +3,7 @@
 use Rattle.std.specs.Prelude.{Option, Some}
 use Rattle.std.specs.Borrow.{Fml, LendsIf, MutBor}
 use Rattle.batcher_ffi.specs.Files.{CFiles}
-use Rattle.batcher_ffi.specs.Validators.{CValidator}
+use Rattle.batcher_ffi.specs.Judging.{JudgedValidatorView}
 use Rattle.batcher_ffi.specs.Rounds.{CRound}
 use Rattle.batcher_ffi.specs.Rows.{files_row, validator_row, round_row}
 use Rattle.batcher_ffi.specs.contracts.handle.FilesHandle as files_handle
@@ -17,7 +17,7 @@ abbrev pub LendsRound : MutBor RoundHandle → Option (MutBor CRound) → Fml
 LendsRound s r =
     LendsIf round_handle.the_row round_row s r (λ w. record s.now { value = Some w }) s.now
 
-abbrev pub LendsValidator : MutBor ValidatorHandle → Option (MutBor CValidator) → Fml
+abbrev pub LendsValidator : MutBor ValidatorHandle → Option (MutBor JudgedValidatorView) → Fml
 LendsValidator s r =
     LendsIf validator_handle.the_row validator_row s r (λ w. record s.now { value = Some w }) s.now
 

@@ -8,6 +8,7 @@ pub mod Rounds
 pub mod Answers
 pub mod Tasks
 pub mod Validators
+pub mod Judging
 pub mod Disks
 pub mod Forwarding
 pub mod Progress

@@ -3,7 +3,7 @@
 use Rattle.std.specs.Prelude.{◌≡◌, ◌≢◌, ◌<◌, ◌≤◌, ◌++◌, ◌⊎◌, ◌&&◌, ◌||◌, ◌==◌, ⊤, ℕ, Bool, true}
 use Rattle.std.specs.Prelude.{List, [], ◌∷◌, cond, length, nat_lt, Contains, MatchBool}
 use Rattle.std.specs.Prelude.{MatchOption, Option, Some, None, Result, Ok, Err, IfErr, IfOk, IfSome}
-use Rattle.std.specs.Prelude.{IsSomeAnd, OnErr, OnOk, false, is_some, not, take}
+use Rattle.std.specs.Prelude.{IsSomeAnd, OnErr, OnOk, false, not, take}
 use Rattle.std.specs.Option.{option_map}
 use Rattle.std.specs.Ordering.{nat_cmp}
 use Rattle.std.specs.declared.alloc.AllocError.{AllocError}
@@ -61,7 +61,7 @@ use Rattle.batcher_node.specs.Nodes.{IsNext, NodeConfig, NodeView, WhyNotEntered
 use Rattle.batcher_node.specs.Nodes.{slot_at}
 use Rattle.batcher_node.specs.Represents.{VoteMayNeed, ahead_answer, is_heard}
 use Rattle.batcher_node.specs.Windows.{is_ahead}
-use Rattle.batcher_node.specs.Verdicts.{LooksAtKindThere, LooksAtThere}
+use Rattle.batcher_node.specs.Verdicts.{LooksAtThere}
 use Rattle.batcher_node.specs.declared.answers.Ahead.{Ahead}
 use Rattle.batcher_node.specs.declared.answers.Cast.{Cast}
 use Rattle.batcher_node.specs.declared.answers.Cast.TheVariants.{ToSend, Known as KnownVote}
@@ -102,22 +102,21 @@ use Rattle.batcher_ffi.specs.declared.codes.TheConstants.{NOT_BEGUN, NOT_GIVEN}
 use Rattle.batcher_ffi.specs.declared.codes.TheConstants.{NOT_OWN, NOT_VERIFIED, NOT_WRITTEN}
 use Rattle.batcher_ffi.specs.declared.codes.TheConstants.{OTHER_OWNER, OTHER_VERSION}
 use Rattle.batcher_ffi.specs.declared.codes.TheConstants.{OUT_OF_MEMORY, REFUSED, SHORT}
-use Rattle.batcher_ffi.specs.declared.codes.TheConstants.{SIGNED, STALE, VERIFY, WRITE}
+use Rattle.batcher_ffi.specs.declared.codes.TheConstants.{SIGNED, VERIFY, WRITE}
 use Rattle.batcher_ffi.specs.declared.flat.FlatAdmission.{FlatAdmission}
 use Rattle.batcher_ffi.specs.declared.flat.FlatAttestation.{FlatAttestation}
 use Rattle.batcher_ffi.specs.declared.flat.FlatProposal.{FlatProposal}
-use Rattle.batcher_ffi.specs.declared.flat.FlatStep.{FlatStep}
 use Rattle.batcher_ffi.specs.declared.flat.FlatVote.{FlatVote}
 use Rattle.batcher_ffi.specs.declared.starting.TheConstants.{MOST_AHEAD, MOST_PARTICIPANTS}
 use Rattle.batcher_ffi.specs.declared.starting.ValidatorOptions.{ValidatorOptions}
 use Rattle.batcher_ffi.specs.declared.tasks.FlatTask.{FlatTask}
-use Rattle.batcher_ffi.specs.Flat.{AreIn, fault_in, kind_in, proposal_of_flat, raw_in}
+use Rattle.batcher_ffi.specs.Flat.{fault_in, kind_in, proposal_of_flat, raw_in}
 use Rattle.batcher_ffi.specs.Flat.{round_of_flat, subject_in, vote_of_flat}
 use Rattle.batcher_ffi.specs.Answers.{AnswersVote, ahead_code, enter_code, receipt_code}
 use Rattle.batcher_ffi.specs.Answers.{verdict_code}
 use Rattle.batcher_ffi.specs.Certificates.{AreVerdictsOn, certifies_by, listing_in}
 use Rattle.batcher_ffi.specs.Output.{FillsRoom, WritesAll}
-use Rattle.batcher_ffi.specs.Rounds.{AreOfParticipants, AreVerifiedBy, IsVerifiedBy, is_one_of}
+use Rattle.batcher_ffi.specs.Rounds.{is_one_of}
 use Rattle.batcher_ffi.specs.Tasks.{IsProposedIn, OthersStay, task_in}
 
 -- a validator as C has it
@@ -192,20 +191,12 @@ GivesMessage namespace code kind proposal room list old count =
 abbrev pub kept_in : CValidator → List (Certificate ProofView Sha256Digest)
 kept_in l = l.shelf.certificates
 
--- What a caller has verified, by the keys of the validator: a vote, or a list one by one.
-module _ (handle : Option CValidator) where
-  abbrev pub IsVerifiedFor : FlatVote → Bool → Type 0
-  IsVerifiedFor vote attests = IfSome handle (λ l. IsVerifiedBy (validator_keys l) vote attests)
-
-  abbrev pub AreVerifiedFor : ℕ → FlatProposal → List FlatAttestation → List Bool → Type 0
-  AreVerifiedFor kind proposal list verdicts =
-      IfSome handle (λ l. AreVerifiedBy (validator_keys l) kind proposal list verdicts)
-
-  -- or on those that the bytes of a certificate list
-  abbrev pub AreVerifiedIn : ℕ → FlatProposal → List ℕ → List Bool → Type 0
-  AreVerifiedIn kind proposal bytes verdicts =
-      IfSome handle (λ l. IfSome (subject_in kind proposal) (λ subject.
-      AreVerdictsOn (validator_keys l) (validator_participants l) subject bytes verdicts))
+-- What a caller has verified, by the keys of the validator: those that the bytes of a certificate
+-- list.
+abbrev pub AreVerifiedIn : CValidator → ℕ → FlatProposal → List ℕ → List Bool → Type 0
+AreVerifiedIn l kind proposal bytes verdicts =
+    IfSome (subject_in kind proposal) (λ subject.
+    AreVerdictsOn (validator_keys l) (validator_participants l) subject bytes verdicts)
 
 -- and the votes of earlier lives that its journal has
 abbrev pub earlier_in : CValidator → List (Vote Signature Sha256Digest)
@@ -341,13 +332,6 @@ LendsNone l =
     → IsNext l.voter.node.rounds view
     → LooksAtThere validator_round_config (slot_at l.voter.node.rounds view) subject all → ⊥
 
--- A kind isn't ready in a view.
-abbrev pub LendsNoneOf : CValidator → ℕ → Kind → Type 0
-LendsNoneOf l view kind =
-    (subject : Subject Sha256Digest) (all : List (Attestation Signature))
-    → LooksAtKindThere validator_round_config (slot_at l.voter.node.rounds view) kind subject
-    all → ⊥
-
 -- whether what a peer sends is looked at, whose key is the number
 abbrev pub hears_code : CValidator → ℕ → ℕ
 hears_code l peer =
@@ -359,28 +343,6 @@ abbrev pub is_over_in : CValidator → Round → Bool
 is_over_in l round =
     not (round.epoch.0 == l.voter.node.epoch.0)
     || nat_lt round.view.0 l.voter.node.window.finalized
-
--- Attestations of a subject are lent, on which verdicts are wanted: of what is looked at.
-pub record IsLentBy
-    (LooksAt : Subject Sha256Digest → List (Attestation Signature) → Type 0) (out : FlatStep)
-    (room list : List FlatAttestation) : Type 0 where
-  pub subject : Subject Sha256Digest
-  pub asked : List (Attestation Signature)
-  pub looks_at : LooksAt subject asked
-  pub about : subject_in out.kind out.proposal ≡ Some subject
-  pub listed : out.listed ≡ length asked
-  pub written : FillsRoom raw_in asked room list
-
--- They are of the next construction,
-abbrev pub IsLent : CValidator → FlatStep → List FlatAttestation → List FlatAttestation → Type 0
-IsLent l = IsLentBy (λ subject asked. (view : ℕ) → IsNext l.voter.node.rounds view
-    → LooksAtThere validator_round_config (slot_at l.voter.node.rounds view) subject asked)
-
--- or of a kind of a view, of which no construction is made yet.
-abbrev pub IsLentOf : CValidator → ℕ → Kind → FlatStep → List FlatAttestation → List FlatAttestation
-    → Type 0
-IsLentOf l view kind = IsLentBy (LooksAtKindThere validator_round_config
-    (slot_at l.voter.node.rounds view) kind)
 
 -- Questions to a validator, and what is answered to them. It stays as it was.
 module _ (l : CValidator) (code : ℕ) where
@@ -594,70 +556,28 @@ module _ (before : CValidator) (code : ℕ) (after : CValidator) where
       IsUnlike bytes verdicts ⊎ (IsNotCopied bytes ⊎ CertificateCame peer subject bytes
       (certifies_by (validator_keys before) (validator_participants before) subject bytes)))
 
-  -- Where no kind is ready, its view rests.
-  pub record Lends (old out : FlatStep) (room list : List FlatAttestation) : Type 0 where
-    pub codes : is_one_of (VERIFY ∷ IDLE ∷ SHORT ∷ OUT_OF_MEMORY ∷ []) code ≡ true
-    pub short : code ≡ SHORT → length room < validator_participants before
-    pub fits : code ≡ VERIFY → validator_participants before ≤ length room
-    pub lent : code ≡ VERIFY → IsLent before out room list
-    pub same : (code ≡ VERIFY) ⊎ (code ≡ SHORT) → after ≡ before
+  -- A construction without verdicts is made, or its view rests.
+  pub record RestsWithout : Type 0 where
+    pub codes : (code ≡ IDLE) ⊎ (code ≡ OUT_OF_MEMORY)
     pub rests : code ≡ IDLE
         → HasConstructed (validator_config before) before after ⊎ Notes answered
     pub needed : code ≡ OUT_OF_MEMORY
         → IsShelfFull ⊎ ConstructionNeeds (validator_config before) before.voter
-    pub none : (code ≡ IDLE) ⊎ (code ≡ OUT_OF_MEMORY) → LendsNone before
     pub refused : code ≡ OUT_OF_MEMORY → ValidatorRests
-    pub stays : code ≢ VERIFY → (out ≡ old) × (list ≡ room)
     pub on_disk : validator_copy after ≡ validator_copy before
-
-  -- Of a view that is named nothing is made, and nothing changes.
-  pub record LendsOf (view : ℕ) (kind : Kind) (old out : FlatStep)
-      (room list : List FlatAttestation) : Type 0 where
-    pub codes : is_one_of (VERIFY ∷ IDLE ∷ SHORT ∷ []) code ≡ true
-    pub short : code ≡ SHORT → length room < validator_participants before
-    pub fits : code ≡ VERIFY → validator_participants before ≤ length room
-    pub lent : code ≡ VERIFY → IsLentOf before view kind out room list
-    pub none : code ≡ IDLE → LendsNoneOf before view kind
-    pub stays : code ≢ VERIFY → (out ≡ old) × (list ≡ room)
-    pub same : after ≡ before
-
-  -- what is lent of a kind of a view, or of the next construction where the view is 0
-  abbrev pub LendsIn : ℕ → ℕ → FlatStep → FlatStep → List FlatAttestation
-      → List FlatAttestation → Type 0
-  LendsIn view kind old out room list =
-      (view ≡ 0 → Lends old out room list)
-      × (view ≢ 0 → IfRead (kind_in kind) ((out ≡ old) × (list ≡ room)) (λ typed.
-      LendsOf view typed old out room list))
 
   -- A construction is made by verdicts, or they are of something else.
   pub record IsConcluded (subject : Subject Sha256Digest) (all : List (Attestation Signature))
       : Type 0 where
-    pub codes : is_one_of (DONE ∷ STALE ∷ OUT_OF_MEMORY ∷ []) code ≡ true
+    pub codes : is_one_of (DONE ∷ IDLE ∷ OUT_OF_MEMORY ∷ []) code ≡ true
     pub made : code ≡ DONE → HasConstructed (validator_config before) before after
-    pub stale : code ≡ STALE → Notes answered
+    pub answered_only : code ≡ IDLE → Notes answered
     pub not_stale : (view : ℕ) → IsNext before.voter.node.rounds view
         → LooksAtThere validator_round_config (slot_at before.voter.node.rounds view) subject
-        all → code ≢ STALE
+        all → code ≢ IDLE
     pub needed : code ≡ OUT_OF_MEMORY
         → IsShelfFull ⊎ ConstructionNeeds (validator_config before) before.voter
     pub refused : code ≡ OUT_OF_MEMORY → ValidatorRests
-    pub on_disk : validator_copy after ≡ validator_copy before
-
-  -- Verdicts on what was lent.
-  pub record Concludes (kind : ℕ) (proposal : FlatProposal) (list : List FlatAttestation)
-      (verdicts : List Bool) : Type 0 where
-    pub codes : is_one_of (DONE ∷ MALFORMED ∷ STALE ∷ OUT_OF_MEMORY ∷ []) code ≡ true
-    pub meaningless : subject_in kind proposal ≡ None → code ≡ MALFORMED
-    pub unlike : length verdicts ≢ length list → code ≡ MALFORMED
-    pub malformed : code ≡ MALFORMED → is_some (subject_in kind proposal) ≡ true
-        → AreOfParticipants (validator_participants before) list → length verdicts ≡ length list → ⊥
-    pub concluded : code ≢ MALFORMED → code ≢ OUT_OF_MEMORY → (subject : Subject Sha256Digest)
-        × ((all : List (Attestation Signature)) × ((subject_in kind proposal ≡ Some subject)
-        × (AreIn list all × IsConcluded subject all)))
-    pub needed : code ≡ OUT_OF_MEMORY → (1 ≤ length list)
-        ⊎ (IsShelfFull ⊎ ConstructionNeeds (validator_config before) before.voter)
-    pub refused : code ≡ OUT_OF_MEMORY → ValidatorRests
-    pub stays : code ≡ MALFORMED → after ≡ before
     pub on_disk : validator_copy after ≡ validator_copy before
 
   -- a vote of its own that attests

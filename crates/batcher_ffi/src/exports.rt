@@ -24,7 +24,7 @@ use std::alloc::Global;
 /// Does nothing. Its name has the version of the header, so that a library of another one doesn't
 /// link.
 #[unsafe(no_mangle)]
-pub extern "C" fn batcher_abi_8() {}
+pub extern "C" fn batcher_abi_9() {}
 
 /// What a round is made of.
 #[repr(C)]

@@ -5,13 +5,13 @@
 ghost use Rattle.std.specs.Prelude.{◌≡◌, Option, None, Some};
 ghost use Rattle.std.specs.Option.{MatchOption};
 ghost use Rattle.batcher_ffi.specs.Files.{CFiles};
-ghost use Rattle.batcher_ffi.specs.Validators.{CValidator};
+ghost use Rattle.batcher_ffi.specs.Judging.{JudgedValidatorView};
 ghost use Rattle.batcher_ffi.specs.Rounds.{CRound};
 
 use crate::caller::Caller;
 use crate::files::Files;
+use crate::judging::JudgedValidator;
 use crate::unboxed::Unboxed;
-use crate::validators::CValidator;
 use batcher_verdicts::AnyRound;
 use std::alloc::Global;
 use std::marker::Model;
@@ -108,7 +108,7 @@ impl RoundHandle {
 pub struct ValidatorHandle {
     pub(crate) at: *mut u8,
     alloc: Global,
-    pub ghost value: { Option CValidator },
+    pub ghost value: { Option JudgedValidatorView },
 }
 
 impl Model for ValidatorHandle {
@@ -129,7 +129,7 @@ impl ValidatorHandle {
         }
     }
 
-    fn from_unboxed(whole: Unboxed<CValidator, Global>) -> ValidatorHandle
+    fn from_unboxed(whole: Unboxed<JudgedValidator, Global>) -> ValidatorHandle
         ensures { result.value ≡ Some whole.value }
     {
         let Unboxed { at, alloc } = whole;
@@ -139,7 +139,7 @@ impl ValidatorHandle {
         }
     }
 
-    fn into_unboxed(self) -> Option<Unboxed<CValidator, Global>>
+    fn into_unboxed(self) -> Option<Unboxed<JudgedValidator, Global>>
         ensures { MatchOption result (self.value ≡ None) (λ whole. self.value ≡ Some whole.value) }
     {
         let ValidatorHandle { at, alloc } = self;
@@ -147,20 +147,20 @@ impl ValidatorHandle {
             None
         } else {
             Some(Unboxed {
-                at: at as *mut CValidator,
+                at: at as *mut JudgedValidator,
                 alloc,
             })
         }
     }
 
     /// A handle of the validator.
-    fn of(validator: Box<CValidator>) -> ValidatorHandle
+    fn of(validator: Box<JudgedValidator>) -> ValidatorHandle
         ensures { result.value ≡ Some validator.value }
     {
         ValidatorHandle::from_unboxed(Unboxed::of(validator))
     }
 
-    fn into_box(self) -> Option<Box<CValidator>>
+    fn into_box(self) -> Option<Box<JudgedValidator>>
         ensures { MatchOption result (self.value ≡ None) (λ b. self.value ≡ Some b.value) }
     {
         match self.into_unboxed() {
@@ -170,7 +170,7 @@ impl ValidatorHandle {
     }
 
     /// Takes the validator out, where there is one, so that the handle is empty.
-    pub fn take(&mut self, alloc: Global) -> Option<Box<CValidator>>
+    pub fn take(&mut self, alloc: Global) -> Option<Box<JudgedValidator>>
         ensures taken { MatchOption result (self.old.value ≡ None)
             (λ validator. self.old.value ≡ Some validator.value) }
         ensures left { self.new.value ≡ None }
@@ -179,7 +179,7 @@ impl ValidatorHandle {
     }
 
     /// Puts a validator in. One that was there is freed.
-    pub fn put(&mut self, validator: Box<CValidator>)
+    pub fn put(&mut self, validator: Box<JudgedValidator>)
         ensures { self.new.value ≡ Some validator.value }
     {
         drop(mem::replace(self, ValidatorHandle::of(validator)).into_box());

@@ -8,7 +8,7 @@ ghost use Rattle.batcher_ffi.specs.Lending.{LendsFiles, LendsRound, LendsValidat
 
 use crate::files::Files;
 use crate::handle::{FilesHandle, Round, RoundHandle, ValidatorHandle};
-use crate::validators::CValidator;
+use crate::judging::JudgedValidator;
 
 impl RoundHandle {
     /// The round, where there is one.
@@ -28,12 +28,12 @@ impl RoundHandle {
 
 impl ValidatorHandle {
     /// The validator, where there is one.
-    pub fn as_mut(&mut self) -> Option<&mut CValidator>
+    pub fn as_mut(&mut self) -> Option<&mut JudgedValidator>
         ensures* writes_back { sem 𝓛 (LendsValidator self.entry result) }
         ensures value { MatchOption result (self.old.value ≡ None)
             (λ validator. self.old.value ≡ Some validator.now) }
     {
-        let at = self.at as *mut CValidator;
+        let at = self.at as *mut JudgedValidator;
         if at.is_null() {
             None
         } else {

@@ -13,6 +13,7 @@ mod files;
 mod flat;
 mod forwarding;
 mod handle;
+mod judging;
 mod lending;
 mod progress;
 mod rounds;

@@ -3,18 +3,21 @@
 ghost use Rattle.std.specs.Prelude.{◌≡◌, ⊤, None};
 ghost use Rattle.batcher_ffi.specs.Disks.{AreVerifiedAt, ListsDisk, MakesValidator};
 ghost use Rattle.batcher_ffi.specs.Forwarding.{AsksLacking};
-ghost use Rattle.batcher_ffi.specs.Handles.{OnValidator};
-ghost use Rattle.batcher_ffi.specs.Validators.{AreVerifiedFor, AreVerifiedIn, AsksCertified};
+ghost use Rattle.batcher_ffi.specs.Handles.{OnEntering, OnJudged, OnValidator};
+ghost use Rattle.batcher_ffi.specs.Judging.{AreTrueFor, AreVerifiedFor, IsVerifiedFor, LendsNext};
+ghost use Rattle.batcher_ffi.specs.Judging.{TakesVerdicts, output};
+ghost use Rattle.batcher_ffi.specs.Validators.{AsksCertified};
 ghost use Rattle.batcher_ffi.specs.Validators.{AsksKept, AsksListing, AsksOwed, AsksViews};
-ghost use Rattle.batcher_ffi.specs.Validators.{AsksWanted, CastsOwn, Concludes, Enters, Expires};
+ghost use Rattle.batcher_ffi.specs.Validators.{AsksWanted, CastsOwn, Enters, Expires};
 ghost use Rattle.batcher_ffi.specs.Validators.{Gave, GivesMessage, HearsCertificate, HearsVote};
-ghost use Rattle.batcher_ffi.specs.Validators.{IsVerifiedFor, Judges, LendsIn, Polls, Wrote};
+ghost use Rattle.batcher_ffi.specs.Validators.{Judges, Polls, Wrote};
 ghost use Rattle.batcher_ffi.specs.Validators.{hears_code, validator_namespace};
 ghost use Rattle.batcher_ffi.specs.Progress.{AsksProgress};
 
 use crate::codes::{DONE, NONE, OUT_OF_MEMORY};
 use crate::flat::{FlatAdmission, FlatAttestation, FlatProposal, FlatStep, FlatVote};
 use crate::handle::ValidatorHandle;
+use crate::judging::{self, JudgedValidator};
 use crate::progress::FlatProgress;
 use crate::starting::ValidatorOptions;
 use crate::tasks::FlatTask;
@@ -54,7 +57,7 @@ pub extern "C" fn batcher_validator_start(
         validator.new.value result verdicts.now }
 {
     match disks::started_by(alloc, options, namespace_bytes, disk, verdicts) {
-        Ok(made) => match Box::new(alloc, made) {
+        Ok(made) => match Box::new(alloc, JudgedValidator::new(alloc, made)) {
             Ok(made) => {
                 validator.put(made);
                 DONE
@@ -80,10 +83,10 @@ pub extern "C" fn batcher_validator_poll(validator: &mut ValidatorHandle, out: &
     ensures { OnValidator validator.old.value validator.new.value result (out.new ≡ out.old)
         (λ before after. Polls before result after out.old out.new) }
 {
-    let Some(validator) = validator.as_mut() else {
+    let Some(it) = validator.as_mut() else {
         return NONE;
     };
-    validators::poll(validator, out)
+    validators::poll(&mut it.validator, out)
 }
 
 /// What is to be written to the disk: behind what is there, or in its place. Where it fits into the
@@ -101,10 +104,10 @@ pub extern "C" fn batcher_validator_give(
         Gave before result after number × AsksOwed before result room.old room.new count.old
         count.new replaces.old replaces.new) }
 {
-    let Some(validator) = validator.as_mut() else {
+    let Some(it) = validator.as_mut() else {
         return NONE;
     };
-    validators::give(validator, number, room, count, replaces)
+    validators::give(&mut it.validator, number, room, count, replaces)
 }
 
 /// The write that is under way by this number is done, and lasts.
@@ -113,10 +116,10 @@ pub extern "C" fn batcher_validator_wrote(validator: &mut ValidatorHandle, numbe
     ensures { OnValidator validator.old.value validator.new.value result (Unit {0}) (λ before after.
         Wrote before result after number) }
 {
-    let Some(validator) = validator.as_mut() else {
+    let Some(it) = validator.as_mut() else {
         return NONE;
     };
-    validators::wrote(validator, number)
+    validators::wrote(&mut it.validator, number)
 }
 
 /// Takes in a vote that was sent by the peer with this key.
@@ -130,10 +133,10 @@ pub extern "C" fn batcher_validator_vote(
     ensures { OnValidator validator.old.value validator.new.value result (out.new ≡ out.old)
         (λ before after. HearsVote before result after peer vote.now out.old out.new) }
 {
-    let Some(validator) = validator.as_mut() else {
+    let Some(it) = validator.as_mut() else {
         return NONE;
     };
-    validators::receive_vote(validator, peer, vote, out)
+    validators::receive_vote(&mut it.validator, peer, vote, out)
 }
 
 /// Takes in a certificate that was sent by the peer with this key, with a verdict on each of the
@@ -149,14 +152,22 @@ pub extern "C" fn batcher_validator_certificate(
     bytes: &[u8],
     verdicts: &[bool],
 ) -> u8
-    requires { AreVerifiedIn validator.old.value kind proposal.now bytes.now verdicts.now }
+    requires { AreVerifiedFor validator.old.value kind proposal.now bytes.now verdicts.now }
     ensures { OnValidator validator.old.value validator.new.value result (Unit {0}) (λ before after.
         HearsCertificate before result after peer kind proposal.now bytes.now verdicts.now) }
 {
-    let Some(validator) = validator.as_mut() else {
+    let Some(it) = validator.as_mut() else {
         return NONE;
     };
-    validators::receive_certificate(validator, alloc, peer, kind, proposal, bytes, verdicts)
+    validators::receive_certificate(
+        &mut it.validator,
+        alloc,
+        peer,
+        kind,
+        proposal,
+        bytes,
+        verdicts,
+    )
 }
 
 /// The attestations that the bytes of a certificate list, on which verdicts are wanted.
@@ -172,10 +183,10 @@ pub extern "C" fn batcher_validator_listed(
         × (count.new ≡ count.old)) (λ before after. (after ≡ before)
         × AsksListing before result bytes.now list.old list.new count.old count.new) }
 {
-    let Some(validator) = validator.as_mut() else {
+    let Some(it) = validator.as_mut() else {
         return NONE;
     };
-    validators::listed(validator, alloc, bytes, list, count)
+    validators::listed(&it.validator, alloc, bytes, list, count)
 }
 
 /// Whether a certificate of this kind, and of the round of the proposal, is looked at that is sent
@@ -190,51 +201,51 @@ pub extern "C" fn batcher_validator_wants(
     ensures { OnValidator validator.old.value validator.new.value result ⊤ (λ before after.
         (after ≡ before) × AsksWanted before result peer kind proposal.now) }
 {
-    let Some(validator) = validator.as_mut() else {
+    let Some(it) = validator.as_mut() else {
         return NONE;
     };
-    validators::wants(validator, peer, kind, proposal)
+    validators::wants(&it.validator, peer, kind, proposal)
 }
 
-/// Writes the attestations on which verdicts are wanted, and what they are to attest: for the next
-/// construction, which view 0 is, or of a kind of a view. Where there are none for the next one,
-/// its view rests.
+/// Hands out attestations that are to be verified, each once, with what they are to attest and a
+/// stamp that nothing else has. Where the verdicts on all that the next construction looks at are
+/// there, that is made, and where no kind is ready, its view rests.
 #[unsafe(no_mangle)]
 pub extern "C" fn batcher_validator_lend(
     validator: &mut ValidatorHandle,
-    view: u64,
-    kind: u8,
     out: &mut FlatStep,
+    stamp: &mut u64,
     list: &mut [FlatAttestation],
 ) -> u8
-    ensures { OnValidator validator.old.value validator.new.value result ((out.new ≡ out.old)
-        × (list.new ≡ list.old)) (λ before after.
-        LendsIn before result after view kind out.old out.new list.old list.new) }
+    ensures { OnJudged validator.old.value validator.new.value result
+        (output out.new stamp.new list.new ≡ output out.old stamp.old list.old) (λ before after.
+        LendsNext before result after (output out.old stamp.old list.old)
+        (output out.new stamp.new list.new)) }
 {
-    let Some(validator) = validator.as_mut() else {
+    let Some(it) = validator.as_mut() else {
         return NONE;
     };
-    validators::lend(validator, view, kind, out, list)
+    judging::lend(it, out, stamp, list)
 }
 
-/// Makes the next construction by verdicts on what was lent.
+/// Takes in verdicts on what was handed out last of a kind of a view, by its stamp, and makes the
+/// next construction, where they complete what that wants.
 #[unsafe(no_mangle)]
 pub extern "C" fn batcher_validator_conclude(
     validator: &mut ValidatorHandle,
-    alloc: Global,
+    view: u64,
     kind: u8,
-    proposal: &FlatProposal,
-    list: &[FlatAttestation],
+    stamp: u64,
     verdicts: &[bool],
 ) -> u8
-    requires { AreVerifiedFor validator.old.value kind proposal.now list.now verdicts.now }
-    ensures { OnValidator validator.old.value validator.new.value result (Unit {0}) (λ before after.
-        Concludes before result after kind proposal.now list.now verdicts.now) }
+    requires { AreTrueFor validator.old.value view kind stamp verdicts.now }
+    ensures { OnJudged validator.old.value validator.new.value result (Unit {0}) (λ before after.
+        TakesVerdicts before result after view kind stamp verdicts.now) }
 {
-    let Some(validator) = validator.as_mut() else {
+    let Some(it) = validator.as_mut() else {
         return NONE;
     };
-    validators::conclude(validator, alloc, kind, proposal, list, verdicts)
+    judging::conclude(it, view, kind, stamp, verdicts)
 }
 
 /// The bytes to sign for a subject in a namespace, and to verify a signature on it. No other
@@ -267,10 +278,10 @@ pub extern "C" fn batcher_validator_message(
         (validator_namespace before) result kind proposal.now room.old room.new count.old
         count.new) }
 {
-    let Some(validator) = validator.as_mut() else {
+    let Some(it) = validator.as_mut() else {
         return NONE;
     };
-    validators::message(validator, kind, proposal, room, count)
+    validators::message(&it.validator, kind, proposal, room, count)
 }
 
 /// Casts a vote of its own, by the caller's verdict on it: one that was to be signed, or to be cast
@@ -285,26 +296,27 @@ pub extern "C" fn batcher_validator_cast(
     ensures { OnValidator validator.old.value validator.new.value result (Unit {0}) (λ before after.
         CastsOwn before result after vote.now attests) }
 {
-    let Some(validator) = validator.as_mut() else {
+    let Some(it) = validator.as_mut() else {
         return NONE;
     };
-    validators::cast(validator, vote, attests)
+    validators::cast(&mut it.validator, vote, attests)
 }
 
-/// Enters a view with its leader.
+/// Enters a view with its leader. What was handed out of views in which
+/// nothing is due is dropped.
 #[unsafe(no_mangle)]
 pub extern "C" fn batcher_validator_enter(
     validator: &mut ValidatorHandle,
     view: u64,
     leader: u32,
 ) -> u8
-    ensures { OnValidator validator.old.value validator.new.value result (Unit {0}) (λ before after.
+    ensures { OnEntering validator.old.value validator.new.value result (λ before after.
         Enters before result after view leader) }
 {
-    let Some(validator) = validator.as_mut() else {
+    let Some(it) = validator.as_mut() else {
         return NONE;
     };
-    validators::enter(validator, view, leader)
+    judging::enter(it, view, leader)
 }
 
 /// A proposal is valid, or it isn't, and its view is given up. One of its own is valid.
@@ -317,10 +329,10 @@ pub extern "C" fn batcher_validator_judge(
     ensures { OnValidator validator.old.value validator.new.value result (Unit {0}) (λ before after.
         Judges before result after proposal.now valid) }
 {
-    let Some(validator) = validator.as_mut() else {
+    let Some(it) = validator.as_mut() else {
         return NONE;
     };
-    validators::judge(validator, proposal, valid)
+    validators::judge(&mut it.validator, proposal, valid)
 }
 
 /// The time of a view is over, now or again: it is given up, unless its proposal is notarized. All
@@ -334,10 +346,10 @@ pub extern "C" fn batcher_validator_expire(
     ensures { OnValidator validator.old.value validator.new.value result (out.new ≡ out.old)
         (λ before after. Expires before result after view × AsksProgress before view out.new) }
 {
-    let Some(validator) = validator.as_mut() else {
+    let Some(it) = validator.as_mut() else {
         return NONE;
     };
-    validators::expire(validator, view, out)
+    validators::expire(&mut it.validator, view, out)
 }
 
 /// How far a view is, and so why it hangs.
@@ -351,10 +363,10 @@ pub extern "C" fn batcher_validator_progress(
         (λ before after. (after ≡ before)
         × ((result ≡ DONE) × AsksProgress before view out.new)) }
 {
-    let Some(validator) = validator.as_mut() else {
+    let Some(it) = validator.as_mut() else {
         return NONE;
     };
-    validators::ask_progress(validator, view, out)
+    validators::ask_progress(&it.validator, view, out)
 }
 
 /// Which view it is in, and the highest that is final.
@@ -368,10 +380,10 @@ pub extern "C" fn batcher_validator_views(
         ((current.new ≡ current.old) × (last.new ≡ last.old))
         (λ before after. (after ≡ before) × AsksViews before result current.new last.new) }
 {
-    let Some(validator) = validator.as_mut() else {
+    let Some(it) = validator.as_mut() else {
         return NONE;
     };
-    validators::views(validator, current, last)
+    validators::views(&it.validator, current, last)
 }
 
 /// Whether what is sent by the peer with this key is looked at, so that a certificate of another
@@ -381,10 +393,10 @@ pub extern "C" fn batcher_validator_hears(validator: &mut ValidatorHandle, peer:
     ensures { OnValidator validator.old.value validator.new.value result ⊤
         (λ before after. (after ≡ before) × (result ≡ hears_code before peer)) }
 {
-    let Some(validator) = validator.as_mut() else {
+    let Some(it) = validator.as_mut() else {
         return NONE;
     };
-    validators::hears(validator, peer)
+    validators::hears(&it.validator, peer)
 }
 
 /// The proposal of the certificate of this kind and of the round of the proposal, if one is kept.
@@ -398,10 +410,10 @@ pub extern "C" fn batcher_validator_certified(
         (proposal.new ≡ proposal.old) (λ before after. (after ≡ before)
         × AsksCertified before result kind proposal.old proposal.new) }
 {
-    let Some(validator) = validator.as_mut() else {
+    let Some(it) = validator.as_mut() else {
         return NONE;
     };
-    validators::certified(validator, kind, proposal)
+    validators::certified(&it.validator, kind, proposal)
 }
 
 /// The certificate of this kind and of the round of the proposal, if one is kept: its bytes, and
@@ -420,10 +432,10 @@ pub extern "C" fn batcher_validator_kept(
         × AsksKept before result kind proposal.old proposal.new room.old room.new count.old
         count.new) }
 {
-    let Some(validator) = validator.as_mut() else {
+    let Some(it) = validator.as_mut() else {
         return NONE;
     };
-    validators::kept(validator, kind, proposal, room, count)
+    validators::kept(&it.validator, kind, proposal, room, count)
 }
 
 /// Who isn't known to have the payload of the proposal that is notarized in the round of this one:
@@ -440,8 +452,8 @@ pub extern "C" fn batcher_validator_lacking(
         × (count.new ≡ count.old)) (λ before after. (after ≡ before)
         × AsksLacking before result proposal.now list.old list.new count.old count.new) }
 {
-    let Some(validator) = validator.as_mut() else {
+    let Some(it) = validator.as_mut() else {
         return NONE;
     };
-    forwarding::lacking(validator, alloc, proposal, list, count)
+    forwarding::lacking(&it.validator, alloc, proposal, list, count)
 }

@@ -1,26 +1,28 @@
 //! The calls of a validator, over flat values. Each answers a code.
 
-ghost use Rattle.std.specs.Prelude.{◌≡◌, ◌≢◌, ◌<◌, ◌≤◌, ◌⊎◌, [], Err, MatchBool, None};
+ghost use Rattle.std.specs.Prelude.{◌≡◌, ◌≢◌, ◌<◌, ◌≤◌, ◌⊎◌, Err, MatchBool, None};
 ghost use Rattle.std.specs.Prelude.{Some, false, length, map, true};
 ghost use Rattle.batcher_types.specs.Votes.{attestation_of};
 ghost use Rattle.batcher_types.specs.Votes.{subject_of};
 ghost use Rattle.batcher_validator.specs.Histories.{answered, refused};
-ghost use Rattle.batcher_validator.specs.Running.{HasConstructed, RunMeets};
-ghost use Rattle.batcher_voter.specs.Needing.{ConstructionNeeds};
-ghost use Rattle.batcher_ffi.specs.Validators.{AnswersPoll, AreVerifiedFor, AreVerifiedIn};
+ghost use Rattle.batcher_validator.specs.Running.{RunMeets};
+ghost use Rattle.batcher_ffi.specs.Validators.{AnswersPoll, AreVerifiedIn};
 ghost use Rattle.batcher_ffi.specs.Validators.{AsksCertified, AsksKept, AsksListing, AsksOwed};
 ghost use Rattle.batcher_ffi.specs.Validators.{AsksViews, AsksWanted, CastCode, CastsOwn};
-ghost use Rattle.batcher_ffi.specs.Validators.{CertificateCame, Concludes, Enters, EntersWith};
+ghost use Rattle.batcher_ffi.specs.Validators.{CertificateCame, Enters, EntersWith};
 ghost use Rattle.batcher_ffi.specs.Validators.{Expires, Gave, GivesMessage, HearsCertificate};
-ghost use Rattle.batcher_ffi.specs.Validators.{HearsVote, IsConcluded, IsFromAhead, IsLent};
-ghost use Rattle.batcher_ffi.specs.Validators.{IsLentOf, IsNotCopied, IsOfPeer, IsVerifiedFor};
-ghost use Rattle.batcher_ffi.specs.Validators.{Judges, Lends, LendsIn, LendsNone, LendsNoneOf};
-ghost use Rattle.batcher_ffi.specs.Validators.{LendsOf, Notes, Polls, SaysIfWanted, ShowsKept};
-ghost use Rattle.batcher_ffi.specs.Validators.{ValidatorRests, VoteCast, Wrote, hears_code};
+ghost use Rattle.batcher_ffi.specs.Validators.{HearsVote, IsConcluded, IsFromAhead};
+ghost use Rattle.batcher_ffi.specs.Validators.{IsNotCopied, IsOfPeer};
+ghost use Rattle.batcher_ffi.specs.Validators.{Judges};
+ghost use Rattle.batcher_ffi.specs.Validators.{Polls, SaysIfWanted, ShowsKept};
+ghost use Rattle.batcher_ffi.specs.Validators.{VoteCast, Wrote, hears_code};
 ghost use Rattle.batcher_ffi.specs.Validators.{is_over_in, validator_config, validator_copy};
 ghost use Rattle.batcher_ffi.specs.Validators.{validator_namespace, validator_participants};
 ghost use Rattle.batcher_ffi.specs.Flat.{kind_in};
 ghost use Rattle.batcher_ffi.specs.Progress.{AsksProgress};
+ghost use Rattle.batcher_ffi.specs.Rounds.{IsVerifiedBy};
+ghost use Rattle.batcher_ffi.specs.Validators.{RestsWithout, validator_keys};
+ghost use Rattle.batcher_node.specs.Nodes.{SameNode};
 ghost use Rattle.batcher_node.specs.Windows.{is_ahead};
 ghost use Rattle.batcher_ffi.specs.Tasks.{IsProposedIn};
 
@@ -55,7 +57,8 @@ pub type CValidator = Validator<Signed<Caller, true>, Sha256Digest, CopiedLog>;
 
 /// What is to be done next.
 pub fn poll(it: &mut CValidator, out: &mut FlatTask) -> u8
-    ensures { Polls it.old result it.new out.old out.new }
+    ensures polls { Polls it.old result it.new out.old out.new }
+    ensures same { SameNode it.old.voter.node it.new.voter.node }
 {
     let epoch = it.voter().epoch();
     let answer = it.next();
@@ -91,6 +94,7 @@ pub fn give(
     ensures asks { AsksOwed it.old result room.old room.new count.old count.new replaces.old
         replaces.new }
     ensures gives { Gave it.old result it.new number }
+    ensures same { SameNode it.old.voter.node it.new.voter.node }
 {
     let code = write_owed(it, room, count, replaces);
     if code != DONE {
@@ -115,14 +119,16 @@ fn write_owed(it: &CValidator, room: &mut [u8], count: &mut u64, replaces: &mut 
 
 /// The write that is under way by this number lasts.
 pub fn wrote(it: &mut CValidator, number: u64) -> u8
-    ensures { Wrote it.old result it.new number }
+    ensures wrote { Wrote it.old result it.new number }
+    ensures same { SameNode it.old.voter.node it.new.voter.node }
 {
     if it.wrote(number) { DONE } else { NOT_GIVEN }
 }
 
 /// Takes in a vote of the peer whose key is the number.
 pub fn receive_vote(it: &mut CValidator, peer: u64, vote: &FlatVote, out: &mut FlatAdmission) -> u8
-    ensures { HearsVote it.old result it.new peer vote.now out.old out.new }
+    ensures hears { HearsVote it.old result it.new peer vote.now out.old out.new }
+    ensures same { SameNode it.old.voter.node it.new.voter.node }
 {
     let Some(typed) = vote.vote() else {
         return MALFORMED;
@@ -142,9 +148,10 @@ pub fn receive_certificate(
     bytes: &[u8],
     verdicts: &[bool],
 ) -> u8
-    requires { AreVerifiedIn (Some it.old) kind proposal.now bytes.now verdicts.now }
-    ensures { HearsCertificate it.old result it.new peer kind proposal.now bytes.now
+    requires { AreVerifiedIn it.old kind proposal.now bytes.now verdicts.now }
+    ensures hears { HearsCertificate it.old result it.new peer kind proposal.now bytes.now
         verdicts.now }
+    ensures same { SameNode it.old.voter.node it.new.voter.node }
 {
     let Some(subject) = subject_of(kind, proposal) else {
         return MALFORMED;
@@ -164,8 +171,9 @@ fn take_in(
     bytes: &[u8],
     certifies: bool,
 ) -> u8
-    ensures { IsNotCopied it.old result it.new bytes.now
+    ensures came { IsNotCopied it.old result it.new bytes.now
         ⊎ CertificateCame it.old result it.new peer subject bytes.now certifies }
+    ensures same { SameNode it.old.voter.node it.new.voter.node }
 {
     let Ok(copied) = copied(alloc, bytes) else {
         return OUT_OF_MEMORY;
@@ -261,6 +269,7 @@ fn is_ahead(it: &CValidator, round: Round) -> bool
 fn catch_up(it: &mut CValidator, peer: u64, certificate: Certificate<Proof, Sha256Digest>) -> u8
     ensures came { IsFromAhead it.old result it.new peer certificate }
     ensures on_disk { validator_copy it.new ≡ validator_copy it.old }
+    ensures same { SameNode it.old.voter.node it.new.voter.node }
 {
     let answer = it.catch_up(Name(peer), certificate);
     ahead_code_of(&answer)
@@ -273,116 +282,24 @@ fn hear_certificate(
 ) -> u8
     ensures came { IsOfPeer it.old result it.new peer certificate }
     ensures on_disk { validator_copy it.new ≡ validator_copy it.old }
+    ensures same { SameNode it.old.voter.node it.new.voter.node }
 {
     let answer = it.receive_certificate(Name(peer), certificate);
     verdict_code_of(&answer)
 }
 
-/// The attestations on which verdicts are wanted for the next construction, which view 0 is, or of
-/// a kind of a view.
-pub fn lend(
-    it: &mut CValidator,
-    view: u64,
-    kind: u8,
-    out: &mut FlatStep,
-    list: &mut [FlatAttestation],
-) -> u8
-    ensures { LendsIn it.old result it.new view kind out.old out.new list.old list.new }
-{
-    if view == 0 {
-        return lend_next(it, out, list);
-    }
-    match kind_of(kind) {
-        Some(kind) => lend_of(it, view, kind, out, list),
-        None => MALFORMED,
-    }
-}
-
-// Whether a list has a place for each participant.
-fn has_room(it: &CValidator, list: &[FlatAttestation]) -> bool
+/// Whether a list has a place for each participant.
+pub fn has_room(it: &CValidator, list: &[FlatAttestation]) -> bool
     ensures { MatchBool result (validator_participants it.now ≤ length list.now)
         (length list.now < validator_participants it.now) }
 {
     list.len() >= it.participants()
 }
 
-// The attestations of a kind of a view on which verdicts will be wanted.
-fn lend_of(
-    it: &CValidator,
-    view: u64,
-    kind: Kind,
-    out: &mut FlatStep,
-    list: &mut [FlatAttestation],
-) -> u8
-    ensures { LendsOf it.now result it.now view kind out.old out.new list.old list.new }
-{
-    if !has_room(it, list) {
-        return SHORT;
-    }
-    if write_attempt_in(it, view, kind, out, list) {
-        return VERIFY;
-    }
-    IDLE
-}
-
-// Writes what an attempt at a kind of a view looks at, if it looks at anything.
-fn write_attempt_in(
-    it: &CValidator,
-    view: u64,
-    kind: Kind,
-    out: &mut FlatStep,
-    list: &mut [FlatAttestation],
-) -> bool
-    ensures lent { result ≡ true → IsLentOf it.now view kind out.new list.old list.new }
-    ensures none { result ≡ false → LendsNoneOf it.now view kind }
-    ensures stays { result ≡ false → (out.new ≡ out.old) × (list.new ≡ list.old) }
-{
-    match it.attempt_in(View(view), kind) {
-        Some(wanted) => {
-            write_wanted(&wanted, out, &mut [], list);
-            true
-        }
-        None => false,
-    }
-}
-
-// The attestations on which verdicts are wanted. Where no kind is ready, its view rests.
-fn lend_next(it: &mut CValidator, out: &mut FlatStep, list: &mut [FlatAttestation]) -> u8
-    ensures { Lends it.old result it.new out.old out.new list.old list.new }
-{
-    if !has_room(it, list) {
-        return SHORT;
-    }
-    if write_next_attempt(it, out, list) {
-        return VERIFY;
-    }
-    rest(it)
-}
-
-// Writes what the next construction looks at, if it looks at anything.
-fn write_next_attempt(it: &CValidator, out: &mut FlatStep, list: &mut [FlatAttestation]) -> bool
-    ensures lent { result ≡ true → IsLent it.now out.new list.old list.new }
-    ensures none { result ≡ false → LendsNone it.now }
-    ensures stays { result ≡ false → (out.new ≡ out.old) × (list.new ≡ list.old) }
-{
-    match it.next_attempt() {
-        Some(wanted) => {
-            write_wanted(&wanted, out, &mut [], list);
-            true
-        }
-        None => false,
-    }
-}
-
-// A construction without verdicts.
-fn rest(it: &mut CValidator) -> u8
-    ensures codes { (result ≡ IDLE) ⊎ (result ≡ OUT_OF_MEMORY) }
-    ensures rests { result ≡ IDLE → HasConstructed (validator_config it.old) it.old
-        it.new ⊎ Notes it.old result it.new answered }
-    ensures needed { result ≡ OUT_OF_MEMORY → (it.old.shelf.room ≡ 0)
-        ⊎ ConstructionNeeds (validator_config it.old) it.old.voter }
-    ensures refused { result ≡ OUT_OF_MEMORY → ValidatorRests it.old result it.new }
-    ensures on_disk { validator_copy it.new ≡ validator_copy it.old }
+/// A construction without verdicts.
+pub fn rest(it: &mut CValidator) -> u8
+    ensures rests { RestsWithout it.old result it.new }
+    ensures same { SameNode it.old.voter.node it.new.voter.node }
 {
     match it.try_construct(&mut Counter::new(0)) {
         Ok(_) => IDLE,
@@ -390,47 +307,20 @@ fn rest(it: &mut CValidator) -> u8
     }
 }
 
-/// Makes the next construction by verdicts on what was lent.
-pub fn conclude(
-    it: &mut CValidator,
-    alloc: Global,
-    kind: u8,
-    proposal: &FlatProposal,
-    list: &[FlatAttestation],
-    verdicts: &[bool],
-) -> u8
-    requires { AreVerifiedFor (Some it.old) kind proposal.now list.now verdicts.now }
-    ensures { Concludes it.old result it.new kind proposal.now list.now verdicts.now }
-{
-    let Some(subject) = subject_of(kind, proposal) else {
-        return MALFORMED;
-    };
-    if verdicts.len() != list.len() {
-        return MALFORMED;
-    }
-    let all = match attestations_of(alloc, list) {
-        Ok(Some(all)) => all,
-        Ok(None) => return MALFORMED,
-        Err(_) => return OUT_OF_MEMORY,
-    };
-    if !take_part(&all, it.participants()) {
-        return MALFORMED;
-    }
-    conclude_by(it, subject, &all, verdicts)
-}
-
-fn conclude_by(
+/// Makes the next construction by verdicts on a list, where it is what that looks at.
+pub fn conclude_by(
     it: &mut CValidator,
     subject: Subject<Sha256Digest>,
     all: &[Attestation<Signature>],
     verdicts: &[bool],
 ) -> u8
     requires { verdicts.now ≡ map ((validator_config it.old).meaning.attests subject) all.now }
-    ensures { IsConcluded it.old result it.new subject all.now }
+    ensures concluded { IsConcluded it.old result it.new subject all.now }
+    ensures same { SameNode it.old.voter.node it.new.voter.node }
 {
     match it.conclude(subject, all, verdicts) {
         Ok(true) => DONE,
-        Ok(false) => STALE,
+        Ok(false) => IDLE,
         Err(_) => OUT_OF_MEMORY,
     }
 }
@@ -438,8 +328,9 @@ fn conclude_by(
 /// Casts a vote of its own, by the caller's verdict on it. One that doesn't attest isn't written,
 /// and is given to be signed again once a time is over.
 pub fn cast(it: &mut CValidator, vote: &FlatVote, attests: bool) -> u8
-    requires { IsVerifiedFor (Some it.old) vote.now attests }
-    ensures { CastsOwn it.old result it.new vote.now attests }
+    requires { IsVerifiedBy (validator_keys it.old) vote.now attests }
+    ensures casts { CastsOwn it.old result it.new vote.now attests }
+    ensures same { SameNode it.old.voter.node it.new.voter.node }
 {
     let Some(typed) = vote.vote() else {
         return MALFORMED;
@@ -455,6 +346,7 @@ fn refuse(it: &mut CValidator, vote: &Vote<Signature, Sha256Digest>)
     ensures refuses { RunMeets (validator_config it.old) it.old it.new
         (refused (subject_of vote.now)) }
     ensures unwritten { it.new.voter ≡ it.old.voter }
+    ensures same { SameNode it.old.voter.node it.new.voter.node }
 {
     it.refuse(&vote.subject());
 }
@@ -462,7 +354,8 @@ fn refuse(it: &mut CValidator, vote: &Vote<Signature, Sha256Digest>)
 fn cast_verified(it: &mut CValidator, vote: Vote<Signature, Sha256Digest>) -> u8
     requires { (validator_config it.old).meaning.attests (subject_of vote) (attestation_of vote)
         ≡ true }
-    ensures { VoteCast it.old result it.new vote }
+    ensures casts { VoteCast it.old result it.new vote }
+    ensures same { SameNode it.old.voter.node it.new.voter.node }
 {
     let answer = it.cast(vote);
     cast_code_of(answer)
@@ -527,7 +420,8 @@ pub fn message_in(
 
 /// Enters a view with its leader, who has to take part.
 pub fn enter(it: &mut CValidator, view: u64, leader: u32) -> u8
-    ensures { Enters it.old result it.new view leader }
+    ensures enters { Enters it.old result it.new view leader }
+    ensures same { SameNode it.old.voter.node it.new.voter.node }
 {
     if leader as usize >= it.participants() {
         return UNKNOWN;
@@ -536,14 +430,16 @@ pub fn enter(it: &mut CValidator, view: u64, leader: u32) -> u8
 }
 
 fn enter_with(it: &mut CValidator, view: u64, leader: u32) -> u8
-    ensures { EntersWith it.old result it.new view leader }
+    ensures enters { EntersWith it.old result it.new view leader }
+    ensures same { SameNode it.old.voter.node it.new.voter.node }
 {
     enter_code_of(it.enter(View(view), Participant(leader)))
 }
 
 /// The proposal is valid, as one of its own is, or it isn't, and its view is given up.
 pub fn judge(it: &mut CValidator, proposal: &FlatProposal, valid: bool) -> u8
-    ensures { Judges it.old result it.new proposal.now valid }
+    ensures judges { Judges it.old result it.new proposal.now valid }
+    ensures same { SameNode it.old.voter.node it.new.voter.node }
 {
     it.judge(&proposal.proposal(), valid);
     DONE
@@ -554,6 +450,7 @@ pub fn judge(it: &mut CValidator, proposal: &FlatProposal, valid: bool) -> u8
 pub fn expire(it: &mut CValidator, view: u64, out: &mut FlatProgress) -> u8
     ensures expires { Expires it.old result it.new view }
     ensures progress { AsksProgress it.old view out.new }
+    ensures same { SameNode it.old.voter.node it.new.voter.node }
 {
     *out = progress(it, view);
     it.expire(View(view));

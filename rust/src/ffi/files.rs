@@ -73,7 +73,7 @@ impl Drop for Files {
 // As of the calls of a round.
 impl Files {
     fn empty() -> Self {
-        super::batcher_abi_8();
+        super::batcher_abi_9();
         let handle = FilesHandle {
             at: ptr::null_mut(),
         };

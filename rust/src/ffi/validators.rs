@@ -124,18 +124,16 @@ unsafe extern "C" {
     ) -> u8;
     fn batcher_validator_lend(
         validator: *mut ValidatorHandle,
-        view: u64,
-        kind: u8,
         step: *mut Step,
+        stamp: *mut u64,
         list: *mut Attestation,
         list_length: usize,
     ) -> u8;
     fn batcher_validator_conclude(
         validator: *mut ValidatorHandle,
+        view: u64,
         kind: u8,
-        proposal: *const Proposal,
-        list: *const Attestation,
-        list_length: usize,
+        stamp: u64,
         verdicts: *const bool,
         verdicts_length: usize,
     ) -> u8;
@@ -223,7 +221,7 @@ impl Validator {
         list: &mut [Vote],
         count: &mut u64,
     ) -> u8 {
-        super::batcher_abi_8();
+        super::batcher_abi_9();
         // SAFETY: as above, and each list is as long as is said.
         unsafe {
             batcher_validator_disk(
@@ -250,7 +248,7 @@ impl Validator {
             at: ptr::null_mut(),
         };
         let mut made = Validator { handle };
-        super::batcher_abi_8();
+        super::batcher_abi_9();
         // SAFETY: as above; an empty handle is a null pointer.
         let answer = unsafe {
             batcher_validator_start(
@@ -345,35 +343,19 @@ impl Validator {
 
     pub(crate) fn lend(
         &mut self,
-        view: u64,
-        kind: u8,
         step: &mut Step,
+        stamp: &mut u64,
         list: &mut [Attestation],
     ) -> u8 {
         let (room, length) = (list.as_mut_ptr(), list.len());
         // SAFETY: as above.
-        unsafe { batcher_validator_lend(&mut self.handle, view, kind, step, room, length) }
+        unsafe { batcher_validator_lend(&mut self.handle, step, stamp, room, length) }
     }
 
-    pub(crate) fn conclude(
-        &mut self,
-        kind: u8,
-        proposal: &Proposal,
-        list: &[Attestation],
-        verdicts: &[bool],
-    ) -> u8 {
+    pub(crate) fn conclude(&mut self, view: u64, kind: u8, stamp: u64, verdicts: &[bool]) -> u8 {
+        let (from, length) = (verdicts.as_ptr(), verdicts.len());
         // SAFETY: as above.
-        unsafe {
-            batcher_validator_conclude(
-                &mut self.handle,
-                kind,
-                proposal,
-                list.as_ptr(),
-                list.len(),
-                verdicts.as_ptr(),
-                verdicts.len(),
-            )
-        }
+        unsafe { batcher_validator_conclude(&mut self.handle, view, kind, stamp, from, length) }
     }
 
     pub(crate) fn message(

@@ -2,8 +2,8 @@ use Rattle.batcher_ffi.proofs.Words.{◌<◌, ◌≤◌, ap, expired, refl, subs
 use Rattle.batcher_validator.specs.Histories.{chose}
 use Rattle.batcher_ffi.proofs.validators.judge.Goals as goal
 
-pub returns : goal.returns
-returns c =
+pub returns-clause-judges : goal.returns-clause-judges
+returns-clause-judges c =
     let old = c.args.it.now in
     let new = c.judge.new.self in
     let is = c.proposal.ensures in
