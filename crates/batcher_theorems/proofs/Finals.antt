@@ -22,18 +22,13 @@ use Rattle.batcher_validator.specs.Histories.{voter_history}
 use Rattle.batcher_validator.specs.Tasks.{AreGivenInTurn}
 use Rattle.batcher_validator.specs.declared.task.Task.TheVariants.{Block, Cast, Enter, Final, Forward, Judge, Propose}
 use Rattle.batcher_validator.specs.declared.task.Task.TheVariants.{SendCertificate, SendVote, Sign, Verify}
+use Rattle.batcher_voter.proofs.Appending.{knows_before}
 use Rattle.batcher_theorems.specs.Lives.{AreLives, HasGiven, HasGivenFinal, ValidatorLife, acts_in, voter_lives}
 
 knows_later : {D : Type 0} (a b : Conduct D) (s : Subject D) → Knows b s → Knows (a ++ b) s
 knows_later [] b s k = k
 knows_later (voted t ∷ a) b s k = knows_later a b s k
 knows_later (learned t ∷ a) b s k = inr (knows_later a b s k)
-
-knows_first : {D : Type 0} (a b : Conduct D) (s : Subject D) → Knows a s → Knows (a ++ b) s
-knows_first [] b s k = absurd k
-knows_first (voted t ∷ a) b s k = knows_first a b s k
-knows_first (learned t ∷ a) b s (inl e) = inl e
-knows_first (learned t ∷ a) b s (inr k) = inr (knows_first a b s k)
 
 -- what is held is learned
 learned_held :
@@ -62,7 +57,7 @@ module _ {D K G C : Type 0} where
         subst (λ it. Knows (conduct_of (voter_history past)) (subject_certified it)) is in_turn.0
     had_is_known (took held ∷ past) in_turn c (inr had) = had_is_known past in_turn.1 c had
     had_is_known (did event ∷ past) in_turn c (inl is) =
-        knows_first (acts_of event) (conduct_of (voter_history past)) (subject_certified c)
+        knows_before (acts_of event) (conduct_of (voter_history past)) (subject_certified c)
         (held_is_learned event c is)
     had_is_known (did event ∷ past) in_turn c (inr had) =
         knows_later (acts_of event) (conduct_of (voter_history past)) (subject_certified c)
@@ -150,7 +145,7 @@ module _ {S D K G C : Type 0} (meaning : S → Meaning D K G C) (compare_keys : 
         → (p : Proposal D) → HasGivenFinal lives p → Knows (acts_in lives) (Finalize p)
     final_is_known [] are p given = absurd given
     final_is_known (life ∷ earlier) are p (inl given) =
-        knows_first (conduct_of (voter_history life.past)) (acts_in earlier) (Finalize p)
+        knows_before (conduct_of (voter_history life.past)) (acts_in earlier) (Finalize p)
         (given_is_known (config life.validator.voter.node) (acts_in earlier) life.past
         are.1.0.in_turn p given)
     final_is_known (life ∷ earlier) are p (inr given) =
