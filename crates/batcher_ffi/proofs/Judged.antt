@@ -1,5 +1,5 @@
 -- What was handed out of a validator, and the verdicts on it.
-use Rattle.batcher_ffi.proofs.Words.{◌≡◌, ◌≢◌, ◌∙◌, ◌||◌, ap, inl, inr, refl, sym, subst, same_Some, ℕ, Bool, true, false, true≢false, List, Option, None, Some}
+use Rattle.batcher_ffi.proofs.Words.{◌≡◌, ◌≢◌, ◌∙◌, ◌||◌, ap, inl, inr, refl, sym, same_Some, ℕ, Bool, true, false, true≢false, List, Option, None, Some}
 use Rattle.batcher_ffi.proofs.Words.{◌==◌, Attestation, CValidator, DONE, IDLE, IsSomeAnd, Kind, OUT_OF_MEMORY, STALE, Sha256Digest, Signature, Subject}
 use Rattle.batcher_ffi.proofs.Words.{AreJudged, AreThere, AsksEarly, AsksOfNext, ConcludesJudged, IsNotJudged, HasUnverified}
 use Rattle.batcher_ffi.proofs.Words.{JudgedValidatorView, JudgesStamped, LendsNone, LendsWithin, LooksAtNow, LooksAtThere, Output, RequestView, RequestsView}

@@ -1,6 +1,6 @@
 -- What is asked about, and what is recorded after what was.
 use Rattle.batcher_verdicts.proofs.Words.{◌≡◌, inl, inr, ◌++◌, ◌-◌, ◌+◌, ◌∙◌, ℕ, Bool, List, [], length, take, drop, map, Option, None, Some, IfSome, sym, ap}
-use Rattle.batcher_verdicts.proofs.Words.{subst, take-length, append-nil, append_cancel_left, length-drop, length-append, map-append, take-map, append_assoc}
+use Rattle.batcher_verdicts.proofs.Words.{subst, take-length, append-nil, append_cancel_left, length-drop, length-append, take-map, append_assoc}
 use Rattle.batcher_verdicts.proofs.Words.{Attestation, Subject, Notarization, Nullification, Finalization, PerKind, AllTrue, Recorded, Begins, Asks, IsKnown}
 use Rattle.batcher_verdicts.proofs.Words.{AreTrue, AddsVerdicts, VerdictsNeed, ◌≤◌, ◌<◌, arith}
 

@@ -1,4 +1,4 @@
-use Rattle.batcher_verdicts.proofs.Words.{rules, arith}
+use Rattle.batcher_verdicts.proofs.Words.{rules}
 use Rattle.batcher_verdicts.proofs.Requesting.{complete_by}
 use Rattle.batcher_verdicts.proofs.request.Request.judge_by.Goals as goal
 

@@ -1,4 +1,4 @@
-use Rattle.batcher_verdicts.proofs.Words.{◌∙◌, ap, rules, sym}
+use Rattle.batcher_verdicts.proofs.Words.{rules}
 use Rattle.batcher_verdicts.proofs.Requesting.{fewer_true}
 use Rattle.batcher_verdicts.proofs.requests.Requests.drop_before.Goals as goal
 
