@@ -441,7 +441,8 @@ uint8_t batcher_validator_listed(const struct batcher_validator *validator, cons
 uint8_t batcher_validator_wants(const struct batcher_validator *validator, uint64_t peer, uint8_t kind,
                                 const struct batcher_proposal *proposal);
 
-/* Hands out attestations that are to be verified, each once. VERIFY: the list has them. `kind` and
+/* Hands out attestations that are to be verified, each once while what waits only grows at its end.
+ * VERIFY: the list has them. `kind` and
  * `proposal` of `out` say what they are to attest, and `listed` how many they are; `stamp` names
  * them. Call again until it answers something else: there may be more, since other kinds of the
  * view, and later views, are handed out early. DONE: verdicts on all that the next construction

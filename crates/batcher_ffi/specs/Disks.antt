@@ -16,7 +16,7 @@ use Rattle.batcher_bytes.specs.declared.signature.Keys.{Keys}
 use Rattle.batcher_bytes.specs.declared.signature.Signature.{Signature}
 use Rattle.batcher_ffi.specs.Certificates.{certifies_by, listing_in}
 use Rattle.batcher_ffi.specs.Flat.{raw_vote_in}
-use Rattle.batcher_ffi.specs.Judging.{JudgedValidatorView}
+use Rattle.batcher_ffi.specs.Judging.{IsUnasked, JudgedValidatorView}
 use Rattle.batcher_ffi.specs.Validators.{CValidator, IsMade, WhyNotMade, earlier_in, kept_in}
 use Rattle.batcher_ffi.specs.Validators.{validator_keys, validator_participants}
 use Rattle.batcher_ffi.specs.Rounds.{is_one_of}
@@ -96,6 +96,7 @@ module _ (options : ValidatorOptions) (namespace disk : List ℕ) where
       (verdicts : List Bool) : Type 0 where
     pub done : code ≡ DONE → IsSomeAnd new (λ j. IsMade options namespace disk j.validator)
     pub verified : code ≡ DONE → IsSomeAnd new (λ j. HoldsVerified j.validator)
+    pub unasked : code ≡ DONE → IsSomeAnd new IsUnasked
     pub refused : code ≢ DONE → WhyNoneIsMade verdicts code
     pub stays : code ≢ DONE → new ≡ old
 

@@ -1,6 +1,6 @@
 -- What is handed out of a validator to be verified, and what its caller's verdicts on that do.
 use Rattle.std.specs.Prelude.{◌≡◌, ◌≢◌, ◌<◌, ◌≤◌, ◌⊎◌, ℕ, Bool, true, List, [], ◌∷◌, length, Option}
-use Rattle.std.specs.Prelude.{Some, IfSome, IsSomeAnd, MatchOption}
+use Rattle.std.specs.Prelude.{None, Some, IfSome, IsSomeAnd, MatchOption}
 use Rattle.batcher_types.specs.declared.messages.Attestation.{Attestation}
 use Rattle.batcher_types.specs.declared.messages.Kind.{Kind}
 use Rattle.batcher_types.specs.declared.messages.Sha256Digest.{Sha256Digest}
@@ -29,6 +29,10 @@ use Rattle.batcher_ffi.specs.Validators.{validator_round_config}
 pub record JudgedValidatorView : Type 0 where
   pub validator : CValidator
   pub requests : RequestsView Signature Sha256Digest
+
+-- Nothing was handed out.
+abbrev pub IsUnasked : JudgedValidatorView → Type 0
+IsUnasked j = (key : ℕ) → request_at j.requests key ≡ None
 
 -- whether an attestation attests, by the scheme of the validator
 abbrev pub attests_by : CValidator → Subject Sha256Digest → Attestation Signature → Bool

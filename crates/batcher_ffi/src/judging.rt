@@ -10,7 +10,7 @@ ghost use Rattle.batcher_node.specs.Nodes.{SameNode};
 ghost use Rattle.batcher_verdicts.specs.Requests.{AllHaveTrueVerdicts, request_key, request_key_in};
 ghost use Rattle.batcher_ffi.specs.Judging.{AreTrueNow, AsksEarly, AsksLeft, AsksOfNext, AsksOf};
 ghost use Rattle.batcher_ffi.specs.Judging.{ConcludesJudged, DropsRested, HasUnverified};
-ghost use Rattle.batcher_ffi.specs.Judging.{IsFirstDue, IsJudgedAt};
+ghost use Rattle.batcher_ffi.specs.Judging.{IsFirstDue, IsJudgedAt, IsUnasked};
 ghost use Rattle.batcher_ffi.specs.Judging.{IsNotJudged, LendsNext, LooksAtNow, TakesVerdicts};
 ghost use Rattle.batcher_ffi.specs.Judging.{output};
 ghost use Rattle.batcher_ffi.specs.Validators.{Enters, LendsNone};
@@ -53,6 +53,7 @@ impl JudgedValidator {
     /// One of which nothing was handed out.
     pub fn new(alloc: Global, validator: CValidator) -> Self
         ensures validator { result.validator ≡ validator }
+        ensures unasked { IsUnasked result }
     {
         JudgedValidator {
             validator,

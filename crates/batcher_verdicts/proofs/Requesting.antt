@@ -1,7 +1,7 @@
 -- What is handed out, and the verdicts that come back.
 use Rattle.batcher_verdicts.proofs.Words.{◌≡◌, ◌≢◌, ◌≤◌, ◌<◌, ◌⊎◌, ◌++◌, ◌+◌, ◌*◌, ◌∙◌, inl, inr, refl, sym, ap, subst, ℕ}
 use Rattle.batcher_verdicts.proofs.Words.{Bool, List, [], length, take, drop, map}
-use Rattle.batcher_verdicts.proofs.Words.{Bor, Option, None, Some, IfSome, Result, Ok, Err, IfOk, OnErr, cases_eq, cases_lt}
+use Rattle.batcher_verdicts.proofs.Words.{Bor, Option, None, Some, IfSome, Result, Ok, Err, IfOk, cases_eq, cases_lt}
 use Rattle.batcher_verdicts.proofs.Words.{take-length, take-map, take-take, map-append, length-map, length-append, length-take-le, take-append-drop, arith}
 use Rattle.batcher_verdicts.proofs.Words.{Attestation, Subject, AllHaveTrueVerdicts, AreJudged, DropsBefore, HasTrueVerdicts}
 use Rattle.batcher_verdicts.proofs.Words.{RequestView, RequestsView, judged_by, IsLeftAt, is_at, nat_cmp, request_at, set_value, set_value_same}
@@ -80,11 +80,6 @@ pub same_ok : {G D A E : Type 0} (r : Result (Bor (List A)) E) (new old : Reques
 same_ok (Ok left) new old was is back stays = λ none. back (stays none)
 same_ok (Err e) new old was is back stays = tt
 
-pub same_err : {G D A E : Type 0} (r : Result A E) (new old : RequestsView G D)
-    (was is : RequestView G D) → (is ≡ was → new ≡ old) → OnErr r (is ≡ was) → OnErr r (new ≡ old)
-same_err (Ok a) new old was is back stays = tt
-same_err (Err e) new old was is back stays = back stays
-
 -- what holds of the verdicts of a request that is there
 pub true_at : {G D : Type 0} (attests : Subject D → Attestation G → Bool) (r : RequestView G D)
     (requests : RequestsView G D) (key : ℕ) → request_at requests key ≡ Some r
@@ -135,7 +130,3 @@ pub not_none_left : {G D : Type 0} (at : Option (RequestView G D)) (subject : Su
     → ⊥
 not_none_left at subject waiting none some left =
     some (sym (subst (λ o. IsLeftAt o subject waiting []) none left))
-
-pub on_each_err : {A E P : Type 0} (r : Result A E) → P → OnErr r P
-on_each_err (Ok a) h = tt
-on_each_err (Err e) h = h

@@ -1,7 +1,8 @@
 use Rattle.std.specs.BTreeMap.{get}
 use Rattle.std.specs.Ordering.{nat_cmp}
 use Rattle.batcher_verdicts.proofs.Words.{◌∙◌, ap, rules, sym, not_at}
-use Rattle.batcher_verdicts.proofs.Requesting.{all_have_true, not_none_left, on_each_err, same_err, same_ok, same_put, same_true, true_at}
+use Rattle.batcher_verdicts.proofs.Requesting.{all_have_true, not_none_left, same_ok, same_put, same_true, true_at}
+use Rattle.batcher_verdicts.proofs.Plain.{on_any, on_err}
 use Rattle.batcher_verdicts.specs.Requests.{request_at, request_key}
 use Rattle.batcher_verdicts.proofs.requests.Requests.ask_by.Goals as goal
 
@@ -30,7 +31,7 @@ returns-in-Some-clause-none g c =
 
 pub returns-in-Some-clause-refused : goal.returns-in-Some-clause-refused
 returns-in-Some-clause-refused g c =
-    same_err c.ask.result _ c.args.self.now c.in-Some.request.now c.ask.new.self
+    on_err c.ask.result
     (λ same. rw (sym c.self.view_is) (same_put _ _ c.key_of-key.result _ _ (c.get_mut.follows.holds c.ask.new.self).0
     (sym c.in-Some.ensures.value) same)) c.ask.ensures.refused
 
@@ -46,7 +47,7 @@ returns-then-is_empty-clause-truths g c = λ attests before.
 
 pub returns-in_err-put-in-None-clause-needed : goal.returns-in_err-put-in-None-clause-needed
 returns-in_err-put-in-None-clause-needed g c =
-    on_each_err _ (not_none_left (request_at c.args.self.now (request_key c.args.subject.now)) c.args.subject.now
+    on_any _ (not_none_left (request_at c.args.self.now (request_key c.args.subject.now)) c.args.subject.now
     c.args.waiting.now (rw (sym c.key_of-key.ensures) (ap (λ s. request_at s c.key_of-key.result) (sym c.self.view_is)
     ∙ sym c.in-None.ensures.value)) (search rules))
 
